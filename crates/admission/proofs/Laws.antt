@@ -1,0 +1,5 @@
+pub mod Ranges
+pub mod Sums
+pub mod Verdict
+pub mod Admitted
+pub mod Alike

@@ -1,0 +1,109 @@
+-- What the tests of range say, as plain facts, both ways. Assumes nothing.
+use Prim.Native.Nat.{ℕ, _≤_}
+use mathlib.Core.Path.{_≡_, refl, sym, ap, _∙_}
+use mathlib.Core.Bool.{Bool, true, false, not, false≢true}
+use lib.Dec.{leb}
+use borrow.Author.Tests.{leb-true, le-leb, eq-eqb, ne-eqb}
+use Rattle.units.specs.Folds.{all}
+use Rattle.units.proofs.Laws.Folds.{both}
+use Rattle.table.specs.declared.Task.{Task}
+use Rattle.table.specs.declared.Table.{Table}
+use Rattle.admission.specs.declared.Verdict.{Verdict}
+use Rattle.table.specs.Table.{limit}
+use Rattle.admission.specs.Admission.{answer, countInRange, settingInRange, inRange, faultAt, faulty}
+
+-- a test that cannot hold is false
+pub no-test : (b : Bool) → (b ≡ true → ⊥) → false ≡ b
+no-test true h = absurd (h refl)
+no-test false h = refl
+
+pub record CountFits (t : Table) : Type 0 where
+  pub low : 1 ≤ t .count
+  pub high : t .count ≤ 16
+
+pub count-tells : (t : Table) → countInRange t ≡ true → CountFits t
+unfolding countInRange
+count-tells t h = let p = both _ _ h in record { low = leb-true _ _ (p .0); high = leb-true _ _ (p .1) }
+
+pub count-holds : (t : Table) → CountFits t → countInRange t ≡ true
+unfolding countInRange
+count-holds t h = simp (le-leb _ _ (h .low), le-leb _ _ (h .high))
+
+pub record SettingFits (t : Table) : Type 0 where
+  pub full-low : 1 ≤ t .full
+  pub full-high : t .full ≤ 64
+  pub round-low : 1 ≤ t .round
+  pub round-high : t .round ≤ 1000000
+
+pub setting-tells : (t : Table) → settingInRange t ≡ true → SettingFits t
+unfolding settingInRange
+setting-tells t h =
+    let p = both _ _ h in
+    let q = both _ _ (p .0) in
+    let r = both _ _ (q .0) in
+    record { full-low = leb-true _ _ (r .0); full-high = leb-true _ _ (r .1); round-low = leb-true _ _ (q .1); round-high = leb-true _ _ (p .1) }
+
+pub setting-holds : (t : Table) → SettingFits t → settingInRange t ≡ true
+unfolding settingInRange
+setting-holds t h = simp (le-leb _ _ (h .full-low), le-leb _ _ (h .full-high), le-leb _ _ (h .round-low), le-leb _ _ (h .round-high))
+
+pub record NumbersFit (f : ℕ) (k : Task) : Type 0 where
+  pub d-low : 1 ≤ k .deadline .0
+  pub d-high : k .deadline .0 ≤ k .period .0
+  pub t-high : k .period .0 ≤ 65535
+  pub c-low : 1 ≤ k .budget .0
+  pub c-high : k .budget .0 ≤ 65535
+  pub i-low : 1 ≤ k .independent
+  pub i-high : k .independent ≤ k .synchronization
+  pub s-high : k .synchronization ≤ f
+
+pub range-tells : (f : ℕ) (k : Task) → inRange f k ≡ true → NumbersFit f k × (all (λ r. leb (limit k r) (k .budget .0)) 8 ≡ true)
+unfolding inRange
+range-tells f k h =
+    let limits = both _ _ h in
+    let s = both _ _ (limits .0) in
+    let i = both _ _ (s .0) in
+    let i-low = both _ _ (i .0) in
+    let c = both _ _ (i-low .0) in
+    let c-low = both _ _ (c .0) in
+    let t = both _ _ (c-low .0) in
+    let d = both _ _ (t .0) in (
+      record {
+        d-low = leb-true _ _ (d .0);
+        d-high = leb-true _ _ (d .1);
+        t-high = leb-true _ _ (t .1);
+        c-low = leb-true _ _ (c-low .1);
+        c-high = leb-true _ _ (c .1);
+        i-low = leb-true _ _ (i-low .1);
+        i-high = leb-true _ _ (i .1);
+        s-high = leb-true _ _ (s .1);
+      },
+      limits .1,
+    )
+
+pub range-holds : (f : ℕ) (k : Task) → NumbersFit f k → inRange f k ≡ all (λ r. leb (limit k r) (k .budget .0)) 8
+unfolding inRange
+range-holds f k h =
+    simp (
+      le-leb _ _ (h .d-low),
+      le-leb _ _ (h .d-high),
+      le-leb _ _ (h .t-high),
+      le-leb _ _ (h .c-low),
+      le-leb _ _ (h .c-high),
+      le-leb _ _ (h .i-low),
+      le-leb _ _ (h .i-high),
+      le-leb _ _ (h .s-high),
+    )
+
+-- a position at fault, and one that is not
+module _ (t : Table) (k : ℕ) {v : Verdict} (e : v ≡ faultAt t k) where
+  pub at-fault : (answer v .0 ≡ 0 → ⊥) → faulty t k ≡ true
+  unfolding faulty
+  at-fault h = ap not (ne-eqb _ _ (λ z. h (ap (λ (v : Verdict). answer v .0) e ∙ z)))
+
+  pub no-fault : answer v .0 ≡ 0 → faulty t k ≡ false
+  unfolding faulty
+  no-fault h = ap not (eq-eqb _ _ (sym (ap (λ (v : Verdict). answer v .0) e) ∙ h))
+
+pub sound : (t : Table) (k : ℕ) → answer (faultAt t k) .0 ≡ 0 → faulty t k ≡ true → ⊥
+sound t k e h = false≢true (sym (no-fault t k refl e) ∙ h)

@@ -1,0 +1,57 @@
+-- The verdict, by its cases. Assumes nothing.
+use Prim.Native.Nat.{ℕ, _≤_, _<_}
+use mathlib.Core.Path.{_≡_, sym, ap, _∙_}
+use mathlib.Core.Logic.{⊎-elim}
+use native.Mathlib.Nat.{eq-or-lt-of-le}
+use borrow.Author.Tests.{lt-ltb, le-ltb}
+use Rattle.units.specs.Folds.{first}
+use Rattle.units.proofs.Laws.Folds.{lowest-bound, lowest-at, first-at, first-none}
+use Rattle.table.specs.declared.Table.{Table}
+use Rattle.admission.specs.declared.Verdict.{Verdict}
+use Rattle.admission.specs.declared.Verdict.the-variants as Is
+use Rattle.admission.specs.Admission.{independentSum, answer, countInRange, settingInRange, faultAt, faulty, overloaded, sums, verdict}
+use Rattle.admission.proofs.Laws.Ranges.{no-test, CountFits, SettingFits, count-tells, count-holds, setting-tells, setting-holds, sound}
+
+-- v is the first fault, found before the sums are known
+module _ (t : Table) {v : Verdict} (e : v ≡ first (faulty t) (faultAt t) Is.Passed (t .count)) (z : Verdict) where
+  fault-first : (answer v .0 ≡ 0 → ⊥) → v ≡ first (faulty t) (faultAt t) z (t .count)
+  fault-first h =
+      ⊎-elim
+      (λ n. absurd (h (ap (λ (v : Verdict). answer v .0) (e ∙ first-none _ _ _ _ n))))
+      (λ l. e ∙ first-at _ _ _ _ l ∙ sym (first-at _ _ _ _ l))
+      (eq-or-lt-of-le (lowest-bound (faulty t) (t .count)))
+
+  fault-none : answer v .0 ≡ 0 → first (faulty t) (faultAt t) z (t .count) ≡ z
+  fault-none h =
+      ⊎-elim
+      (λ n. first-none _ _ _ _ n)
+      (λ l. absurd (sound t _ (sym (ap (λ (v : Verdict). answer v .0) (e ∙ first-at _ _ _ _ l)) ∙ h) (lowest-at _ _ l)))
+      (eq-or-lt-of-le (lowest-bound (faulty t) (t .count)))
+
+module _ (t : Table) where
+  pub says-count : (CountFits t → ⊥) → Is.Count ≡ verdict t
+  unfolding verdict
+  says-count h = simp (sym (no-test (countInRange t) (λ e. h (count-tells t e))))
+
+  module _ (c : CountFits t) where
+    pub says-setting : (SettingFits t → ⊥) → Is.Setting ≡ verdict t
+    unfolding verdict
+    says-setting h = simp (count-holds t c, sym (no-test (settingInRange t) (λ e. h (setting-tells t e))))
+
+    module _ (s : SettingFits t) where
+      pub says-rest : verdict t ≡ first (faulty t) (faultAt t) (sums t) (t .count)
+      unfolding verdict
+      says-rest = simp (count-holds t c, setting-holds t s)
+
+      module _ {v : Verdict} (e : v ≡ first (faulty t) (faultAt t) Is.Passed (t .count)) where
+        pub says-fault : (answer v .0 ≡ 0 → ⊥) → v ≡ verdict t
+        says-fault h = fault-first t e (sums t) h ∙ sym says-rest
+
+        module _ (h : answer v .0 ≡ 0) {n : ℕ} (m : n ≡ independentSum t) where
+          pub says-independent : t .round < n → Is.Independent ≡ verdict t
+          unfolding sums
+          says-independent l = sym (says-rest ∙ fault-none t e (sums t) h ∙ rw (← m, lt-ltb _ _ l))
+
+          pub says-overload : n ≤ t .round → first (overloaded t) Is.Synchronization Is.Passed (t .count) ≡ verdict t
+          unfolding sums
+          says-overload l = sym (says-rest ∙ fault-none t e (sums t) h ∙ rw (← m, le-ltb _ _ l))
