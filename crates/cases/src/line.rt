@@ -1,5 +1,5 @@
 // A table in a line of text: a label and ':', then F, G and the count; then for each run of equal entries '|', the first and the last position of the run,
-// T, D, C, I and S, and a resource and its limit for each resource that they take. Whatever is no digit stands between two numbers.
+// T, D, C, I and S, and a resource and its limit for each resource that they take. Between two numbers stand spaces, '-' or '='.
 use table::Table;
 use table::Task;
 use units::Steps;
@@ -19,6 +19,7 @@ pub struct Line {
     pub field: usize,
     pub value: u64,
     pub is_number: bool,
+    pub is_wrong: bool,
     pub end: usize,
     pub run: Run,
     pub table: Table,
@@ -58,6 +59,29 @@ impl Run {
         next.task = task;
         next.resource = value as usize;
         next
+    }
+}
+
+// The largest number that a place of the setting, or of a run, can hold.
+fn most_in_setting(field: usize) -> u64 {
+    match field {
+        0 => 255,
+        1 => 4294967295,
+        _ => 18446744073709551615,
+    }
+}
+
+fn most_in_run(field: usize) -> u64 {
+    match field {
+        0 | 1 => 15,
+        2 | 3 | 4 => 65535,
+        5 | 6 => 255,
+        _ => {
+            if field % 2 == 0 {
+                return 65535;
+            }
+            7
+        }
     }
 }
 
@@ -129,23 +153,35 @@ impl Line {
             field: 0,
             value: 0,
             is_number: false,
+            is_wrong: false,
             end: 0,
             run: run,
             table: table,
         }
     }
 
-    pub(crate) fn is_table(self) -> bool {
+    pub(crate) fn has_table(self) -> bool {
         self.part != Line::LABEL
     }
 
-    // Numbers of up to nineteen digits; more are left out.
+    fn wrong(self) -> Line {
+        let mut next = self;
+        next.is_wrong = true;
+        next
+    }
+
+    // A number past 18,446,744,073,709,551,615 is none.
     fn with_digit(self, digit: u8) -> Line {
+        let last = (digit % 10) as u64;
+        if 1844674407370955161 < self.value {
+            return self.wrong();
+        }
+        if 18446744073709551615 - last < self.value * 10 {
+            return self.wrong();
+        }
         let mut next = self;
         next.is_number = true;
-        if self.value < 1000000000000000000 {
-            next.value = self.value * 10 + (digit % 10) as u64;
-        }
+        next.value = self.value * 10 + last;
         next
     }
 
@@ -158,9 +194,11 @@ impl Line {
         if self.part == Line::SETTING {
             let table = with_setting(self.table, self.field, self.value);
             next.table = table;
+            next.is_wrong = self.is_wrong || most_in_setting(self.field) < self.value;
         } else {
             let run = self.run.with(self.field, self.value);
             next.run = run;
+            next.is_wrong = self.is_wrong || most_in_run(self.field) < self.value;
         }
         if self.field < 65536 {
             next.field = self.field + 1;
@@ -170,18 +208,40 @@ impl Line {
         next
     }
 
+    // Whether the part has all its numbers: three of a setting; seven of a run, and two for each resource that it takes.
+    fn is_whole(self) -> bool {
+        if self.part == Line::SETTING {
+            return self.field == 3;
+        }
+        if self.field < 7 {
+            return false;
+        }
+        self.field % 2 == 1
+    }
+
     // A part ends: its run is laid into the table, and another may begin.
-    fn with_part(self, part: u8) -> Line {
+    fn next_part(self) -> Line {
         let run = Run::new();
         let mut next = self;
+        if !self.is_whole() {
+            next.is_wrong = true;
+        }
         if self.part == Line::RUN {
             let table = with_run(self.table, self.run);
             next.table = table;
         }
-        next.part = part;
+        next.part = Line::RUN;
         next.field = 0;
         next.run = run;
         next
+    }
+
+    fn with_mark(self, byte: u8) -> Line {
+        match byte {
+            b'|' | b'\n' => self.next_part(),
+            b' ' | b'-' | b'=' => self,
+            _ => self.wrong(),
+        }
     }
 
     // One byte more, which stands at a place of the text.
@@ -190,7 +250,8 @@ impl Line {
             if byte != b':' {
                 return self;
             }
-            let mut next = self.with_part(Line::SETTING);
+            let mut next = self;
+            next.part = Line::SETTING;
             next.end = at;
             return next;
         }
@@ -199,13 +260,6 @@ impl Line {
                 return self.with_digit(byte - b'0');
             }
         }
-        let read = self.with_number();
-        if byte == b'|' {
-            return read.with_part(Line::RUN);
-        }
-        if byte == b'\n' {
-            return read.with_part(Line::RUN);
-        }
-        read
+        self.with_number().with_mark(byte)
     }
 }

@@ -3,7 +3,6 @@ use admission::Verdict;
 use libc::STDIN_FILENO;
 use libc::STDOUT_FILENO;
 use line::Line;
-use table::Table;
 
 mod line;
 
@@ -11,10 +10,14 @@ fn write(text: &[u8]) {
     io::write_all(STDOUT_FILENO, text);
 }
 
-fn answer(label: &[u8], table: Table) {
-    let verdict = Verdict::of(table);
+fn answer(label: &[u8], line: Line) {
     write(label);
     write(b": ");
+    if line.is_wrong {
+        write(b"no table\n");
+        return;
+    }
+    let verdict = Verdict::of(line.table);
     io::print_decimal(STDOUT_FILENO, verdict.number() as u64);
     write(b" ");
     io::print_decimal(STDOUT_FILENO, verdict.position() as u64);
@@ -24,16 +27,17 @@ fn answer(label: &[u8], table: Table) {
 // The label of a line that starts at `start` ends where its ':' stands. A line without one is passed over.
 fn answer_line(text: &[u8], start: usize, line: Line) {
     let end = line.end;
-    if !line.is_table() {
+    if !line.has_table() {
         return;
     }
     if start <= end {
         if end <= text.len() {
-            answer(&text[start..end], line.table);
+            answer(&text[start..end], line);
         }
     }
 }
 
+// The last line may lack its line end.
 fn answer_all(text: &[u8]) {
     let mut start = 0;
     let mut line = Line::new();
@@ -49,10 +53,16 @@ fn answer_all(text: &[u8]) {
             line = Line::new();
         }
     }
+    answer_line(text, start, line.with(b'\n', at));
 }
 
+// A text that fills the buffer may go on past it, so none of it is answered.
 fn main() {
     let mut text = io::large_buffer();
     let n = io::read_full(STDIN_FILENO, &mut text);
-    answer_all(&text[..n]);
+    if n < 65536 {
+        answer_all(&text[..n]);
+    } else {
+        write(b"the text is too long\n");
+    }
 }

@@ -1,14 +1,14 @@
 -- A table that passes, as plain facts: what the crates above use in place of the verdict. Assumes nothing.
 use Prim.Native.Nat.{ℕ, zero, suc, _-_, _%_, _≤_, _<_}
-use mathlib.Core.Path.{_≡_, refl, sym, ap, _∙_}
+use mathlib.Core.Path.{_≡_, refl, ap, _∙_}
 use mathlib.Core.Bool.{Bool, true, false, not, cond}
 use mathlib.Core.Logic.{⊎-elim}
-use native.Mathlib.Nat.{eq-or-lt-of-le, le-of-suc-le-suc, le-refl, le-trans, le-of-eq}
+use native.Mathlib.Nat.{eq-or-lt-of-le, le-of-suc-le-suc, le-trans, le-of-eq}
 use native.Mathlib.Omega.{arith}
 use lib.Dec.{ltb, leb, eqb}
 use borrow.Author.Tests.{not-false, ltb-false, leb-true, le-leb, lt-ltb, le-ltb, eqb-true, eq-eqb}
-use Rattle.units.specs.Folds.{first, largest}
-use Rattle.units.proofs.Laws.Folds.{lowest-bound, lowest-at, lowest-is, none-below, first-at, first-none, all-tells, all-holds, largest-bounds}
+use Rattle.units.specs.Folds.{largest}
+use Rattle.units.proofs.Laws.Folds.{all-tells, all-holds, largest-bounds}
 use Rattle.table.specs.declared.Table.{Table}
 use Rattle.admission.specs.declared.Verdict.{Verdict}
 use Rattle.admission.specs.declared.Verdict.the-variants as Is
@@ -16,7 +16,7 @@ use Rattle.table.proofs.Laws.Ceilings.{ceiling-user}
 use Rattle.table.specs.Table.{taskAt, D, C, limit, ceiling}
 use Rattle.admission.specs.Admission.{B, independentSum, synchronizationSum, answer, countInRange, settingInRange, inRange, fault, previous, faultAt, faulty, overloaded, sums, verdict}
 use Rattle.admission.proofs.Laws.Ranges.{CountFits, SettingFits, NumbersFit, count-tells, setting-tells, range-tells, range-holds, sound, no-fault}
-use Rattle.admission.proofs.Laws.Verdict.{says-rest}
+use Rattle.admission.proofs.Laws.Verdict.{Zero, first-tells, first-holds, says-rest}
 
 -- no section that can keep i waiting is longer than B
 abbrev pub Blocks : Table → Type 0
@@ -43,23 +43,9 @@ within-block t i j r l m h e =
 
 -- ---- an answer whose number is 0
 
-abbrev Zero : Verdict → Type 0
-Zero v = answer v .0 ≡ 0
-
 cond-tells : (b : Bool) (x y : Verdict) → (Zero x → ⊥) → Zero (cond b x y) → (b ≡ false) × Zero y
 cond-tells true x y n h = absurd (n h)
 cond-tells false x y n h = (refl, h)
-
-first-tells : (p : ℕ → Bool) (f : ℕ → Verdict) (z : Verdict) (n : ℕ) → ((k : ℕ) → p k ≡ true → Zero (f k) → ⊥) → Zero (first p f z n)
-    → ((k : ℕ) → k < n → p k ≡ false) × Zero z
-first-tells p f z n bad h =
-    ⊎-elim
-    (λ e. (none-below p n e, sym (ap (λ (v : Verdict). answer v .0) (first-none p f z n e)) ∙ h))
-    (λ l. absurd (bad _ (lowest-at p n l) (sym (ap (λ (v : Verdict). answer v .0) (first-at p f z n l)) ∙ h)))
-    (eq-or-lt-of-le (lowest-bound p n))
-
-first-holds : (p : ℕ → Bool) (f : ℕ → Verdict) (z : Verdict) (n : ℕ) → ((k : ℕ) → k < n → p k ≡ false) → first p f z n ≡ z
-first-holds p f z n h = first-none p f z n (lowest-is p n n (le-refl n) (λ l. absurd (omega arith)) h)
 
 -- ---- a position that is not faulty
 

@@ -1,32 +1,49 @@
 -- The verdict, by its cases. Assumes nothing.
 use Prim.Native.Nat.{ℕ, _≤_, _<_}
 use mathlib.Core.Path.{_≡_, sym, ap, _∙_}
+use mathlib.Core.Bool.{Bool, true, false}
 use mathlib.Core.Logic.{⊎-elim}
-use native.Mathlib.Nat.{eq-or-lt-of-le}
+use native.Mathlib.Nat.{eq-or-lt-of-le, le-refl}
+use native.Mathlib.Omega.{arith}
 use borrow.Author.Tests.{lt-ltb, le-ltb}
 use Rattle.units.specs.Folds.{first}
-use Rattle.units.proofs.Laws.Folds.{lowest-bound, lowest-at, first-at, first-none}
+use Rattle.units.proofs.Laws.Folds.{lowest-bound, lowest-at, lowest-is, none-below, first-at, first-none}
 use Rattle.table.specs.declared.Table.{Table}
 use Rattle.admission.specs.declared.Verdict.{Verdict}
 use Rattle.admission.specs.declared.Verdict.the-variants as Is
 use Rattle.admission.specs.Admission.{independentSum, answer, countInRange, settingInRange, faultAt, faulty, overloaded, sums, verdict}
 use Rattle.admission.proofs.Laws.Ranges.{no-test, CountFits, SettingFits, count-tells, count-holds, setting-tells, setting-holds, sound}
 
+-- ---- an answer whose number is 0, and the first that is not
+
+abbrev pub Zero : Verdict → Type 0
+Zero v = answer v .0 ≡ 0
+
+pub first-tells : (p : ℕ → Bool) (f : ℕ → Verdict) (z : Verdict) (n : ℕ) → ((k : ℕ) → p k ≡ true → Zero (f k) → ⊥) → Zero (first p f z n)
+    → ((k : ℕ) → k < n → p k ≡ false) × Zero z
+first-tells p f z n bad h =
+    ⊎-elim
+    (λ e. (none-below p n e, sym (ap (λ (v : Verdict). answer v .0) (first-none p f z n e)) ∙ h))
+    (λ l. absurd (bad _ (lowest-at p n l) (sym (ap (λ (v : Verdict). answer v .0) (first-at p f z n l)) ∙ h)))
+    (eq-or-lt-of-le (lowest-bound p n))
+
+pub first-holds : (p : ℕ → Bool) (f : ℕ → Verdict) (z : Verdict) (n : ℕ) → ((k : ℕ) → k < n → p k ≡ false) → first p f z n ≡ z
+first-holds p f z n h = first-none p f z n (lowest-is p n n (le-refl n) (λ l. absurd (omega arith)) h)
+
+-- ---- the cases
+
 -- v is the first fault, found before the sums are known
 module _ (t : Table) {v : Verdict} (e : v ≡ first (faulty t) (faultAt t) Is.Passed (t .count)) (z : Verdict) where
-  fault-first : (answer v .0 ≡ 0 → ⊥) → v ≡ first (faulty t) (faultAt t) z (t .count)
+  fault-first : (Zero v → ⊥) → v ≡ first (faulty t) (faultAt t) z (t .count)
   fault-first h =
       ⊎-elim
       (λ n. absurd (h (ap (λ (v : Verdict). answer v .0) (e ∙ first-none _ _ _ _ n))))
       (λ l. e ∙ first-at _ _ _ _ l ∙ sym (first-at _ _ _ _ l))
       (eq-or-lt-of-le (lowest-bound (faulty t) (t .count)))
 
-  fault-none : answer v .0 ≡ 0 → first (faulty t) (faultAt t) z (t .count) ≡ z
+  fault-none : Zero v → first (faulty t) (faultAt t) z (t .count) ≡ z
   fault-none h =
-      ⊎-elim
-      (λ n. first-none _ _ _ _ n)
-      (λ l. absurd (sound t _ (sym (ap (λ (v : Verdict). answer v .0) (e ∙ first-at _ _ _ _ l)) ∙ h) (lowest-at _ _ l)))
-      (eq-or-lt-of-le (lowest-bound (faulty t) (t .count)))
+      first-holds _ _ z _ (first-tells (faulty t) (faultAt t) Is.Passed (t .count) (λ k f z. sound t k z f) (sym (ap (λ (v : Verdict). answer v .0) e) ∙ h) .0)
 
 module _ (t : Table) where
   pub says-count : (CountFits t → ⊥) → Is.Count ≡ verdict t
@@ -44,10 +61,10 @@ module _ (t : Table) where
       says-rest = simp (count-holds t c, setting-holds t s)
 
       module _ {v : Verdict} (e : v ≡ first (faulty t) (faultAt t) Is.Passed (t .count)) where
-        pub says-fault : (answer v .0 ≡ 0 → ⊥) → v ≡ verdict t
+        pub says-fault : (Zero v → ⊥) → v ≡ verdict t
         says-fault h = fault-first t e (sums t) h ∙ sym says-rest
 
-        module _ (h : answer v .0 ≡ 0) {n : ℕ} (m : n ≡ independentSum t) where
+        module _ (h : Zero v) {n : ℕ} (m : n ≡ independentSum t) where
           pub says-independent : t .round < n → Is.Independent ≡ verdict t
           unfolding sums
           says-independent l = sym (says-rest ∙ fault-none t e (sums t) h ∙ rw (← m, lt-ltb _ _ l))

@@ -43,6 +43,12 @@ loop-less-2 c = search needs
 loop-again-2 : tie.Need-loop-again-2 Inv-loop μ-loop
 loop-again-2 c = search needs
 
+with-requires-2 : tie.Need-with-requires-2 Inv-loop μ-loop
+with-requires-2 c κs = search needs
+
+answer-line-requires-2 : tie.Need-answer-line-requires-2 Inv-loop μ-loop
+answer-line-requires-2 c κs = search needs
+
 returns : tie.Need-returns Inv-loop μ-loop
 returns c = search needs
 
@@ -63,4 +69,6 @@ answer-all-spec =
     loop-again
     loop-less-2
     loop-again-2
+    with-requires-2
+    answer-line-requires-2
     returns)

@@ -1,7 +1,7 @@
 -- Laws of `given` and `Up`: a faster tick gives more; Up covers the work, with the fewest ticks. Assumes nothing.
 use Prim.Native.Nat.{ℕ, zero, suc, _+_, _-_, _*_, _/_, _≤_, _<_}
 use mathlib.Core.Path.{_≡_}
-use native.Mathlib.Nat.{div-zero, div-lt-iff-lt-mul, lt-div-mul-add, suc-mul, mul-suc}
+use native.Mathlib.Nat.{div-zero, div-lt-iff-lt-mul, lt-div-mul-add, le-of-suc-le-suc, suc-mul, mul-suc}
 use native.Mathlib.Omega.{arith}
 use Rattle.units.specs.Amounts.{given, Up}
 
@@ -21,17 +21,15 @@ pub up-covers : (a b : ℕ) → 0 < b → a ≤ Up a b * b
 unfolding Up
 up-covers a b p = omega (arith, lt-div-mul-add {a = a + (b - 1)} p)
 
+quotient-below : (x n b : ℕ) → 0 < b → x < suc n * b → x / b ≤ n
+quotient-below x n b p l = le-of-suc-le-suc (div-lt-iff-lt-mul p .1 l)
+
 pub up-least : (a b n : ℕ) → a ≤ n * b → Up a b ≤ n
 unfolding Up
 up-least a zero n h = omega (arith, up-none a)
-up-least a (suc b) n h =
-    let p : 0 < suc b = omega arith in
-    let l : a + (suc b - 1) < suc n * suc b = omega (arith, suc-mul n (suc b)) in
-    let q : (a + (suc b - 1)) / suc b < suc n = div-lt-iff-lt-mul p .1 l in omega arith
+up-least a (suc b) n h = quotient-below (a + (suc b - 1)) n (suc b) (omega arith) (omega (arith, suc-mul n (suc b)))
 
 -- a quotient by b is at most a, where the dividend is at most b - 1 above a
 pub quotient-le : (x a b : ℕ) → 0 < b → x ≤ a + (b - 1) → x / b ≤ a
 quotient-le x a zero p h = absurd (omega arith)
-quotient-le x a (suc b) p h =
-    let l : x < suc a * suc b = omega (arith, suc-mul a (suc b), mul-suc a b) in
-    let q : x / suc b < suc a = div-lt-iff-lt-mul p .1 l in omega arith
+quotient-le x a (suc b) p h = quotient-below x a (suc b) p (omega (arith, suc-mul a (suc b), mul-suc a b))

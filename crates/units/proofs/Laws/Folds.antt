@@ -16,10 +16,6 @@ use Rattle.units.specs.Folds.{over, sum, largest, all, lowest, first, li
 -- ---- one position more: b is right below n, and b′ is made of it
 
 module _ {A : Type 0} (p : ℕ → Bool) (f : ℕ → A → A) (z : A) where
-  pub over-none : over p f z 0 ≡ z
-  unfolding over
-  over-none = refl
-
   pub over-more : (n : ℕ) → over p f z (n + 1) ≡ cond (p n) (f n (over p f z n)) (over p f z n)
   unfolding over
   over-more n = rw add-one
