@@ -1,6 +1,6 @@
 -- What is gathered over positions, of tasks or of resources, the lowest first.
 use Prim.Native.Nat.{ℕ, zero, suc, _+_, min, max}
-use mathlib.Core.Bool.{Bool, true, _&&_, cond}
+use mathlib.Core.Bool.{Bool, true, false, _&&_, cond}
 use mathlib.Core.List.{List, [], _∷_, _++_}
 use lib.Dec.{ltb}
 
@@ -16,6 +16,14 @@ sum f n = over (λ k. true) (λ k s. s + f k) 0 n
 -- the largest f of those that have p; 0 where none has
 unfoldable pub largest : (ℕ → Bool) → (ℕ → ℕ) → ℕ → ℕ
 largest p f n = over p (λ k m. max m (f k)) 0 n
+
+-- the smallest f of those that have p; z where none has
+unfoldable pub smallest : (ℕ → Bool) → (ℕ → ℕ) → ℕ → ℕ → ℕ
+smallest p f z n = over p (λ k m. min m (f k)) z n
+
+-- some position below n has p
+unfoldable pub some : (ℕ → Bool) → ℕ → Bool
+some p n = over p (λ k b. true) false n
 
 -- each position below n has p
 unfoldable pub all : (ℕ → Bool) → ℕ → Bool

@@ -1,11 +1,15 @@
-// Ticks and steps, and sets of positions.
+// Ticks and steps, the tick counter, and sets of positions.
 ghost use mathlib.Core.Path.{_≡_};
 ghost use Rattle.units.specs.Amounts.{ticks, steps, given, Up};
 
+mod clock;
 pub mod sets;
 
 // How many ticks. A tick count is never added to a step count.
 pub struct Ticks(pub u16);
+
+// A value of the tick counter: now, or a deadline.
+pub struct Tick(pub u32);
 
 // How many steps of work.
 pub struct Steps(pub u16);

@@ -7,11 +7,11 @@ use native.Mathlib.Nat.{not-suc-le-zero, le-of-suc-le-suc, eq-or-lt-of-le, le-re
 use native.Mathlib.Decide.{decLe, decLt}
 use native.Mathlib.Numerals.{add-one}
 use native.Mathlib.Omega.{arith}
-use mathlib.Core.List.{List, [], _∷_, _++_}
-use lib.ListN.{length, getD, set, length-append, length-set, List·getD-append}
+use mathlib.Core.List.{List, [], _∷_, _++_, map}
+use lib.ListN.{length, getD, set, length-map, length-append, length-set, List·getD-append}
 use lib.Seq.{getD-set-same, getD-set-other, getD-at, ext-getD}
 use borrow.Author.Tests.{lt-ltb, le-ltb}
-use Rattle.units.specs.Folds.{over, sum, largest, all, lowest, first, listed}
+use Rattle.units.specs.Folds.{over, sum, largest, smallest, some, all, lowest, first, listed}
 
 -- ---- one position more: b is right below n, and b′ is made of it
 
@@ -41,6 +41,14 @@ pub largest-same : (p q : ℕ → Bool) (f g : ℕ → ℕ) (n : ℕ) → ((k : 
 unfolding largest
 largest-same p q f g n h e = over-same p q _ _ 0 n h (λ k x l. ap (λ (y : ℕ). max x y) (e k l))
 
+pub smallest-same : (p q : ℕ → Bool) (f g : ℕ → ℕ) (z n : ℕ) → ((k : ℕ) → k < n → p k ≡ q k) → ((k : ℕ) → k < n → f k ≡ g k) → smallest p f z n ≡ smallest q g z n
+unfolding smallest
+smallest-same p q f g z n h e = over-same p q _ _ z n h (λ k x l. ap (λ (y : ℕ). min x y) (e k l))
+
+pub some-same : (p q : ℕ → Bool) (n : ℕ) → ((k : ℕ) → k < n → p k ≡ q k) → some p n ≡ some q n
+unfolding some
+some-same p q n h = over-same p q _ _ false n h (λ k x l. refl)
+
 pub lowest-same : (p q : ℕ → Bool) (n : ℕ) → ((k : ℕ) → k < n → p k ≡ q k) → lowest p n ≡ lowest q n
 unfolding lowest
 lowest-same p q n h = over-same p q _ _ n n h (λ k x l. refl)
@@ -52,6 +60,14 @@ sum-next f n e e′ = over-next _ _ _ n e e′
 pub largest-next : (p : ℕ → Bool) (f : ℕ → ℕ) (n : ℕ) {m m′ : ℕ} → m ≡ largest p f n → m′ ≡ cond (p n) (max m (f n)) m → m′ ≡ largest p f (n + 1)
 unfolding largest
 largest-next p f n e e′ = over-next _ _ _ n e e′
+
+pub smallest-next : (p : ℕ → Bool) (f : ℕ → ℕ) (z n : ℕ) {m m′ : ℕ} → m ≡ smallest p f z n → m′ ≡ cond (p n) (min m (f n)) m → m′ ≡ smallest p f z (n + 1)
+unfolding smallest
+smallest-next p f z n e e′ = over-next _ _ _ n e e′
+
+pub some-next : (p : ℕ → Bool) (n : ℕ) {b b′ : Bool} → b ≡ some p n → b′ ≡ cond (p n) true b → b′ ≡ some p (n + 1)
+unfolding some
+some-next p n e e′ = over-next _ _ _ n e e′
 
 pub all-next : (p : ℕ → Bool) (n : ℕ) {b b′ : Bool} → b ≡ all p n → b′ ≡ b && p n → b′ ≡ all p (n + 1)
 unfolding all
@@ -87,6 +103,76 @@ largest-bounds p f (suc n) k l h =
     older : (b : Bool) (k : ℕ) → f k ≤ largest p f n → f k ≤ cond b (max (largest p f n) (f n)) (largest p f n)
     older true k h = omega arith
     older false k h = h
+
+-- f of some position below n that has p is m
+abbrev pub Among : (ℕ → Bool) → (ℕ → ℕ) → ℕ → ℕ → Type 0
+Among p f n m = (k : ℕ) × (k < n) × (p k ≡ true) × (m ≡ f k)
+
+among-more : (p : ℕ → Bool) (f : ℕ → ℕ) (n m : ℕ) → Among p f n m → Among p f (suc n) m
+among-more p f n m w = (w .0, omega (arith, w .1), w .2, w .3)
+
+pub largest-found : (p : ℕ → Bool) (f : ℕ → ℕ) (n : ℕ) → 0 < largest p f n → Among p f n (largest p f n)
+unfolding largest over
+largest-found p f zero l = absurd (omega arith)
+largest-found p f (suc n) l = go (p n) refl (decLe (f n) m) (λ h. among-more p f n m (largest-found p f n h)) l
+  where
+    m : ℕ
+    m = largest p f n
+
+    go : (b : Bool) → p n ≡ b → Dec (f n ≤ m) → (0 < m → Among p f (suc n) m) → 0 < cond b (max m (f n)) m → Among p f (suc n) (cond b (max m (f n)) m)
+    go true e (yes q) older h = let s : max m (f n) ≡ m = omega arith in rw s (older (omega arith))
+    go true e (no q) older h = (n, le-refl (suc n), e, omega arith)
+    go false e q older h = older h
+
+pub smallest-le : (p : ℕ → Bool) (f : ℕ → ℕ) (z n : ℕ) (k : ℕ) → k < n → p k ≡ true → smallest p f z n ≤ f k
+unfolding smallest over
+smallest-le p f z zero k l h = absurd (not-suc-le-zero l)
+smallest-le p f z (suc n) k l h =
+    up-to (λ k. p k ≡ true → smallest p f z (suc n) ≤ f k) n (λ k l h. older (p n) k (smallest-le p f z n k l h)) (λ h. rw h (omega arith)) k l h
+  where
+    older : (b : Bool) (k : ℕ) → smallest p f z n ≤ f k → cond b (min (smallest p f z n) (f n)) (smallest p f z n) ≤ f k
+    older true k h = omega arith
+    older false k h = h
+
+pub smallest-bound : (p : ℕ → Bool) (f : ℕ → ℕ) (z n : ℕ) → smallest p f z n ≤ z
+unfolding smallest over
+smallest-bound p f z zero = le-refl z
+smallest-bound p f z (suc n) = older (p n) (smallest-bound p f z n)
+  where
+    older : (b : Bool) → smallest p f z n ≤ z → cond b (min (smallest p f z n) (f n)) (smallest p f z n) ≤ z
+    older true h = omega arith
+    older false h = h
+
+pub smallest-found : (p : ℕ → Bool) (f : ℕ → ℕ) (z n : ℕ) → smallest p f z n < z → Among p f n (smallest p f z n)
+unfolding smallest over
+smallest-found p f z zero l = absurd (omega arith)
+smallest-found p f z (suc n) l = go (p n) refl (decLe m (f n)) (λ h. among-more p f n m (smallest-found p f z n h)) l
+  where
+    m : ℕ
+    m = smallest p f z n
+
+    go : (b : Bool) → p n ≡ b → Dec (m ≤ f n) → (m < z → Among p f (suc n) m) → cond b (min m (f n)) m < z → Among p f (suc n) (cond b (min m (f n)) m)
+    go true e (yes q) older h = let s : min m (f n) ≡ m = omega arith in rw s (older (omega arith))
+    go true e (no q) older h = (n, le-refl (suc n), e, omega arith)
+    go false e q older h = older h
+
+pub some-tells : (p : ℕ → Bool) (n : ℕ) → some p n ≡ true → (k : ℕ) × (k < n) × (p k ≡ true)
+unfolding some over
+some-tells p zero h = absurd (false≢true h)
+some-tells p (suc n) h = go (p n) refl (some-tells p n) h
+  where
+    go : (b : Bool) → p n ≡ b → (some p n ≡ true → (k : ℕ) × (k < n) × (p k ≡ true)) → cond b true (some p n) ≡ true → (k : ℕ) × (k < suc n) × (p k ≡ true)
+    go true e older h = (n, le-refl (suc n), e)
+    go false e older h = let w = older h in (w .0, omega (arith, w .1), w .2)
+
+pub some-holds : (p : ℕ → Bool) (n k : ℕ) → k < n → p k ≡ true → some p n ≡ true
+unfolding some over
+some-holds p zero k l h = absurd (not-suc-le-zero l)
+some-holds p (suc n) k l h = up-to (λ k. p k ≡ true → some p (suc n) ≡ true) n (λ k l h. older (p n) (some-holds p n k l h)) (λ h. rw h) k l h
+  where
+    older : (b : Bool) → some p n ≡ true → cond b true (some p n) ≡ true
+    older true h = refl
+    older false h = h
 
 -- ---- the lowest position that has p
 
@@ -182,6 +268,10 @@ first-same p q f g z n h e =
     low = lowest-same p q n h
 
 -- ---- lists by position
+
+-- an array is as long as the list of what its elements stand for
+pub long : {A B : Type 0} (l : List A) (f : A → B) (n : ℕ) → length (map f l) ≡ n → length l ≡ n
+long l f n e = sym (length-map l f) ∙ e
 
 -- a list of length n that a loop fills from the front: what is to hold at each place holds at the first i
 pub record Filled {A : Type 0} (d : A) (P : ℕ → A → Type 0) (n : ℕ) (l : List A) (i : ℕ) : Type 0 where

@@ -1,0 +1,6 @@
+pub mod Again
+pub mod Choice
+pub mod Ready
+pub mod Rules
+pub mod Runner
+pub mod Speed

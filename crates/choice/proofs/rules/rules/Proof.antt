@@ -1,0 +1,107 @@
+use borrow.Author.Tests.{eq-eqb, ne-eqb, lt-ltb, le-ltb}
+use Rattle.choice.specs.Choice.{rules}
+use borrow.Author.Needs.{needs}
+use Rattle.choice.proofs.rules.rules.Statement.{statement}
+use Rattle.choice.proofs.rules.rules.Tie as tie
+
+mark-place-requires : tie.Need-mark-place-requires
+mark-place-requires c κs = search needs
+
+last-holder-requires : tie.Need-last-holder-requires
+last-holder-requires c κs = search needs
+
+position-requires : tie.Need-position-requires
+position-requires c κs = search needs
+
+cast-task : tie.Need-cast-task
+cast-task c = search needs
+
+mul-task : tie.Need-mul-task
+mul-task c = search needs
+
+element-copy-out-task : tie.Need-element-copy-out-task
+element-copy-out-task c = search needs
+
+later-requires : tie.Need-later-requires
+later-requires c κs = search needs
+
+later-requires-2 : tie.Need-later-requires-2
+later-requires-2 c κs = search needs
+
+mark-at-requires : tie.Need-mark-at-requires
+mark-at-requires c κs = search needs
+
+inherited-requires : tie.Need-inherited-requires
+inherited-requires c κs = search needs
+
+returns : tie.Need-returns
+unfolding rules
+returns c =
+    rw (
+      ← c .before .before .before .before .before .before .before .before .mark-place .ensures,
+      ← c .before .before .before .before .before .before .before .last-holder .ensures,
+      ← c .before .before .before .before .before .before .before .before .before .pre .0,
+      ne-eqb _ _ (c .before .before .before .before .if1 .taken),
+      c .before .mark-at .ensures,
+      c .before .before .later2 .ensures,
+      c .before .before .before .later .ensures,
+      c .before .before .before .before .before .before .position .ensures,
+      c .inherited .ensures,
+    )
+
+later-requires-3 : tie.Need-later-requires-3
+later-requires-3 c κs = search needs
+
+mark-at-requires-2 : tie.Need-mark-at-requires-2
+mark-at-requires-2 c κs = search needs
+
+returns-2 : tie.Need-returns-2
+unfolding rules
+returns-2 c =
+    rw (
+      ← c .before .before .before .before .before .before .before .mark-place .ensures,
+      ← c .before .before .before .before .before .before .last-holder .ensures,
+      ← c .before .before .before .before .before .before .before .before .pre .0,
+      eq-eqb _ _ (c .before .before .before .if1 .left),
+      lt-ltb _ _ (c .before .before .if2 .taken),
+      c .mark-at2 .ensures,
+      c .before .later3 .ensures,
+      c .before .before .before .before .before .position .ensures,
+    )
+
+unblocked-requires : tie.Need-unblocked-requires
+unblocked-requires c κs = search needs
+
+returns-3 : tie.Need-returns-3
+unfolding rules
+returns-3 c =
+    rw (
+      ← c .before .before .before .before .before .before .mark-place .ensures,
+      ← c .before .before .before .before .before .last-holder .ensures,
+      ← c .before .before .before .before .before .before .before .pre .0,
+      eq-eqb _ _ (c .before .before .if1 .left),
+      le-ltb _ _ (c .before .if2 .left),
+      c .unblocked .ensures,
+      c .before .before .before .before .position .ensures,
+    )
+
+pub rules-spec : {M : Type 1} → statement M
+rules-spec =
+    tie.close
+    (tie.spec
+    mark-place-requires
+    last-holder-requires
+    position-requires
+    cast-task
+    mul-task
+    element-copy-out-task
+    later-requires
+    later-requires-2
+    mark-at-requires
+    inherited-requires
+    returns
+    later-requires-3
+    mark-at-requires-2
+    returns-2
+    unblocked-requires
+    returns-3)

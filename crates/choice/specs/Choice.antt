@@ -1,0 +1,110 @@
+-- "First half, the choice."
+use Prim.Native.Nat.{ℕ, _/_, min, max}
+use mathlib.Core.Bool.{Bool, true, false, not, _&&_, cond}
+use mathlib.Core.List.{List}
+use lib.ListN.{getD, set}
+use lib.Dec.{ltb, leb, eqb}
+use Rattle.units.specs.declared.Ticks.{Ticks}
+use Rattle.units.specs.Amounts.{ticks}
+use Rattle.units.specs.Clock.{tick, after}
+use Rattle.units.specs.Folds.{smallest, largest, some}
+use Rattle.table.specs.declared.Task.{Task}
+use Rattle.table.specs.declared.Table.{Table}
+use Rattle.table.specs.Table.{taskAt, D, S, ceilings}
+use Rattle.state.specs.declared.Job.{Job}
+use Rattle.state.specs.declared.State.{State}
+use Rattle.state.specs.declared.Held.{Held}
+use Rattle.state.specs.declared.Held.the-variants.{Nothing, In}
+use Rattle.state.specs.declared.Mark.{Mark}
+use Rattle.state.specs.declared.Mark.the-variants.{Absent, At}
+use Rattle.state.specs.declared.Half.the-variants.{Second}
+use Rattle.state.specs.declared.Runner.{Runner}
+use Rattle.state.specs.declared.Runner.the-variants as Runs
+use Rattle.state.specs.declared.Mode.the-variants.{Independent, Synchronization}
+use Rattle.state.specs.State.{jobAt}
+use Rattle.state.specs.Order.{place, placeAt, positionOf, noPlace, isPending, isStarted, isHolder, first, lastHolder}
+use Rattle.choice.specs.declared.Turn.{Turn}
+use Rattle.choice.specs.declared.Choice.{Choice}
+
+-- "top is the first pending job in order"
+abbrev pub top : State → ℕ
+top s = first isPending s
+
+-- "holds a resource whose ceiling is at most top's D"
+abbrev pub bars : List Ticks → ℕ → Held → Bool
+bars ceilings d Nothing = false
+bars ceilings d (In x) = leb (getD ceilings (x .resource) (ticks 0) .0) d
+
+-- "It is blocked if it is not started and another pending job" does
+unfoldable pub blocked : Table → State → ℕ → Bool
+blocked t s p =
+    not (jobAt s p .started) && some (λ k. bars (ceilings t) (D t p) (jobAt s k .held) && (jobAt s k .pending && not (eqb k p))) 16
+
+-- "The runner is top if not blocked, else the first started job in order."
+unfoldable pub runner : Table → State → ℕ
+runner t s = cond (blocked t s (positionOf (top s))) (first isStarted s) (top s)
+
+-- "the shortest D of the jobs ahead of it"
+unfoldable pub shortestAhead : Table → State → ℕ → ℕ
+shortestAhead t s run = smallest (λ k. jobAt s k .pending && ltb (placeAt s k) run) (D t) 65535 16
+
+-- "the largest S over tasks whose D lies between" the two, "both ends counted"
+unfoldable pub fastest : Table → ℕ → ℕ → ℕ
+fastest t low high = largest (λ k. ltb k (t .count) && (leb low (D t k) && leb (D t k) high)) (S t) 16
+
+-- "between the runner's own D and the shortest D of the jobs ahead of it, whichever of the two is the smaller end"
+unfoldable pub inherited : Table → State → ℕ → ℕ
+inherited t s run =
+    let own = D t (positionOf run) in let ahead = shortestAhead t s run in fastest t (min own ahead) (max own ahead)
+
+-- the mark's place in the order; 0, behind no other, where there is none
+abbrev pub markPlace : ℕ → Mark → ℕ
+markPlace now Absent = 0
+markPlace now (At m) = place now (m .deadline .0) (m .position)
+
+-- "The mark becomes" a job at a place
+unfoldable pub markAt : ℕ → ℕ → Mark
+markAt now at = At (record { deadline = tick (after now (at / 256)); position = positionOf at })
+
+-- 3. "A mark stands and the runner is the marked job or behind it: mark removed, independent, speed I." 4. "A mark stands: synchronization, speed S." 5. "Independent, speed I."
+abbrev pub unblocked : Mark → ℕ → ℕ → Task → Turn
+unblocked Absent old run task = record { runner = Runs.Job (positionOf run); mark = Absent; mode = Independent; speed = task .independent }
+unblocked (At m) old run task =
+    cond (leb old run)
+    (record { runner = Runs.Job (positionOf run); mark = Absent; mode = Independent; speed = task .independent })
+    (record { runner = Runs.Job (positionOf run); mark = At m; mode = Synchronization; speed = task .synchronization })
+
+-- "Then, first that fits": 1. "Runner is not top: synchronization. The mark becomes the last in order among the old mark, the runner, and any holders behind the runner."
+-- 2. "Some job behind the runner holds a resource: synchronization, the mark becomes the last in order among the old mark and those holders; speed S of the runner."
+unfoldable pub rules : Table → State → ℕ → Turn
+rules t s run =
+    let now = s .tick .0 in
+    let old = markPlace now (s .mark) in
+    let last = lastHolder s run in
+    let task = taskAt t (positionOf run) in
+    cond (not (eqb run (top s)))
+    (record { runner = Runs.Job (positionOf run); mark = markAt now (max old (max run last)); mode = Synchronization; speed = inherited t s run })
+    (cond (ltb 0 last)
+    (record { runner = Runs.Job (positionOf run); mark = markAt now (max old last); mode = Synchronization; speed = task .synchronization })
+    (unblocked (s .mark) old run task))
+
+-- "With no pending job the processor idles: independent, speed 0, mark removed."
+abbrev pub idle : Turn
+idle = record { runner = Runs.Nobody; mark = Absent; mode = Independent; speed = 0 }
+
+unfoldable pub turn : Table → State → Turn
+turn t s = cond (ltb (top s) noPlace) (rules t s (runner t s)) idle
+
+-- "The runner becomes started."
+abbrev pub begun : Job → Job
+begun j = record { pending = j .pending; started = true; deadline = j .deadline; used = j .used; held = j .held; wait = j .wait }
+
+abbrev pub begin : State → Runner → List Job
+begin s Runs.Nobody = s .jobs
+begin s (Runs.Job p) = set (s .jobs) p (begun (jobAt s p))
+
+-- the state in mid-tick, and the turn
+unfoldable pub choice : Table → State → Choice
+choice t s =
+    let u = turn t s in
+    record { state = record { tick = s .tick; jobs = begin s (u .runner); mark = u .mark; half = Second; runner = u .runner }; turn = u }

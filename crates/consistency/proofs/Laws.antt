@@ -1,0 +1,5 @@
+pub mod Tests
+pub mod Jobs
+pub mod Held
+pub mod Places
+pub mod Facts

@@ -1,0 +1,30 @@
+use borrow.Author.Tests.{lt-ltb, le-ltb}
+use borrow.Author.Needs.{needs}
+use Rattle.consistency.proofs.mark_fits.Statement.{statement}
+use Rattle.consistency.proofs.mark_fits.Tie as tie
+
+enum-told : tie.Need-enum-told
+enum-told c = search needs
+
+enum-known-mark : tie.Need-enum-known-mark
+enum-known-mark c = search needs
+
+cast-if1 : tie.Need-cast-if1
+cast-if1 c = search needs
+
+distance-requires : tie.Need-distance-requires
+distance-requires c κs = search needs
+
+returns : tie.Need-returns
+returns c = search needs
+
+returns-2 : tie.Need-returns-2
+returns-2 c = rw (c .before .before .before .before .mark .given .1, lt-ltb _ _ (c .before .if1 .taken), ← c .distance .ensures)
+
+returns-3 : tie.Need-returns-3
+returns-3 c = rw (c .before .before .before .mark .given .1, le-ltb _ _ (c .if1 .left))
+
+pub mark-fits-spec : {M : Type 1} → statement M
+mark-fits-spec =
+    tie.close
+    (tie.spec enum-told enum-known-mark cast-if1 distance-requires returns returns-2 returns-3)

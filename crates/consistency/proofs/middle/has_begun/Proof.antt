@@ -1,0 +1,46 @@
+use mathlib.Core.Path.{_≡_, ap, sym}
+use native.Mathlib.Nat.{le-trans, le-of-eq}
+use lib.ListN.{length, List·getD-eq-default}
+use Rattle.units.proofs.Laws.Folds.{long}
+use Rattle.state.specs.declared.Job.{Job}
+use Rattle.state.specs.State.{noJob}
+use borrow.Author.Needs.{needs}
+use Rattle.consistency.proofs.middle.has_begun.Statement.{statement}
+use Rattle.consistency.proofs.middle.has_begun.Tie as tie
+
+enum-told : tie.Need-enum-told
+enum-told c = search needs
+
+enum-known-runner : tie.Need-enum-known-runner
+enum-known-runner c = search needs
+
+cast-k : tie.Need-cast-k
+cast-k c = search needs
+
+mul-job : tie.Need-mul-job
+mul-job c = search needs
+
+element-copy-out-job : tie.Need-element-copy-out-job
+element-copy-out-job c = search needs
+
+returns : tie.Need-returns
+returns c = rw (c .before .before .before .runner .given .1)
+
+returns-2 : tie.Need-returns-2
+returns-2 c = search needs
+
+returns-3 : tie.Need-returns-3
+returns-3 c = let l = c .before .before .before .before .args .t1 .jobs in let h : length l ≡ 16 = search (needs, long) in rw (c .before .before .runner .given .1) (sym (ap (λ (j : Job). j .started) (List·getD-eq-default l noJob (le-trans (le-of-eq h) (c .if1 .left)))))
+
+pub has-begun-spec : {M : Type 1} → statement M
+has-begun-spec =
+    tie.close
+    (tie.spec
+    enum-told
+    enum-known-runner
+    cast-k
+    mul-job
+    element-copy-out-job
+    returns
+    returns-2
+    returns-3)

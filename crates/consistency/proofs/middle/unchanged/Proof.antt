@@ -1,0 +1,36 @@
+use Rattle.consistency.specs.Consistency.{unchanged}
+use borrow.Author.Needs.{needs}
+use Rattle.consistency.proofs.middle.unchanged.Statement.{statement}
+use Rattle.consistency.proofs.middle.unchanged.Tie as tie
+
+same-runner-requires : tie.Need-same-runner-requires
+same-runner-requires c κs = search needs
+
+same-mark-requires : tie.Need-same-mark-requires
+same-mark-requires c κs = search needs
+
+has-begun-requires : tie.Need-has-begun-requires
+has-begun-requires c κs = search needs
+
+returns : tie.Need-returns
+unfolding unchanged
+returns c = rw (← c .before .before .before .before .same-runner .ensures, c .before .before .before .if1 .taken, ← c .before .before .same-mark .ensures, c .before .if2 .taken) (c .has-begun .ensures)
+
+returns-2 : tie.Need-returns-2
+unfolding unchanged
+returns-2 c = rw (← c .before .before .before .same-runner .ensures, c .before .before .if1 .taken, ← c .before .same-mark .ensures, c .if2 .left)
+
+returns-3 : tie.Need-returns-3
+unfolding unchanged
+returns-3 c = rw (← c .before .same-runner .ensures, c .if1 .left)
+
+pub unchanged-spec : {M : Type 1} → statement M
+unchanged-spec =
+    tie.close
+    (tie.spec
+    same-runner-requires
+    same-mark-requires
+    has-begun-requires
+    returns
+    returns-2
+    returns-3)

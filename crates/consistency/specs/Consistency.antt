@@ -1,0 +1,115 @@
+-- "A state is consistent when":
+use Prim.Native.Nat.{ℕ, _+_, _-_}
+use mathlib.Core.Bool.{Bool, true, false, not, _&&_, _||_, cond}
+use lib.Dec.{ltb, leb, eqb}
+use Rattle.units.specs.Clock.{distance}
+use Rattle.units.specs.Folds.{all}
+use Rattle.units.specs.Sets.{has}
+use Rattle.table.specs.declared.Task.{Task}
+use Rattle.table.specs.declared.Table.{Table}
+use Rattle.table.specs.Table.{taskAt, limit}
+use Rattle.admission.specs.Admission.{answer, verdict}
+use Rattle.state.specs.declared.Job.{Job}
+use Rattle.state.specs.declared.State.{State}
+use Rattle.state.specs.declared.Held.{Held}
+use Rattle.state.specs.declared.Held.the-variants.{Nothing, In}
+use Rattle.state.specs.declared.Mark.{Mark}
+use Rattle.state.specs.declared.Mark.the-variants.{Absent, At}
+use Rattle.state.specs.declared.Half.{Half}
+use Rattle.state.specs.declared.Half.the-variants.{First, Second}
+use Rattle.state.specs.declared.Runner.{Runner}
+use Rattle.state.specs.declared.Runner.the-variants as Runs
+use Rattle.state.specs.State.{jobAt}
+use Rattle.state.specs.Order.{holdsAny, holds}
+use Rattle.choice.specs.declared.Turn.{Turn}
+use Rattle.choice.specs.Choice.{turn}
+
+-- "the table passes"
+unfoldable pub passes : Table → Bool
+passes t = eqb (answer (verdict t) .0) 0
+
+-- "a job that is not pending is not started, has used 0 and holds nothing"; "what is not in use is 0": its deadline
+unfoldable pub absentFits : Job → Bool
+absentFits j = not (j .started) && (eqb (j .used .0) 0 && (not (holdsAny (j .held)) && eqb (j .deadline .0) 0))
+
+-- "a pending job has used less than C, its deadline is 1 to D ticks ahead, and its wait is that distance plus T - D"
+unfoldable pub pendingFits : Task → ℕ → Job → Bool
+pendingFits task now j =
+    let ahead = distance now (j .deadline .0) in
+    ltb (j .used .0) (task .budget .0)
+    && (leb 1 ahead && (leb ahead (task .deadline .0) && eqb (j .wait .0) (ahead + (task .period .0 - task .deadline .0))))
+
+-- "a job not started has used 0 and holds nothing"
+unfoldable pub startedFits : Job → Bool
+startedFits j = j .started || (eqb (j .used .0) 0 && not (holdsAny (j .held)))
+
+-- "a held resource has limit above 0, its section steps are below the limit"
+abbrev pub heldFits : Task → Held → Bool
+heldFits task Nothing = true
+heldFits task (In x) = ltb 0 (limit task (x .resource)) && ltb (x .steps .0) (limit task (x .resource))
+
+-- "and no other job holds it"
+abbrev pub aloneIn : State → ℕ → Held → Bool
+aloneIn s k Nothing = true
+aloneIn s k (In x) = all (λ i. eqb i k || not (holds (x .resource) (jobAt s i .held))) 16
+
+abbrev pub alone : State → ℕ → Bool
+alone s k = aloneIn s k (jobAt s k .held)
+
+-- the resource that is held is in the set
+abbrev pub isTaken : ℕ → Held → Bool
+isTaken m Nothing = false
+isTaken m (In x) = has m (x .resource)
+
+-- "a wait is at most T"
+unfoldable pub waitFits : Task → Job → Bool
+waitFits task j = leb (j .wait .0) (task .period .0)
+
+unfoldable pub jobFits : Task → ℕ → Job → Bool
+jobFits task now j =
+    waitFits task j && (startedFits j && (heldFits task (j .held) && cond (j .pending) (pendingFits task now j) (absentFits j)))
+
+-- "what is not in use is 0": "every place past the task count"
+unfoldable pub unused : Job → Bool
+unused j = not (j .pending) && (eqb (j .wait .0) 0 && absentFits j)
+
+unfoldable pub placeFits : Table → State → ℕ → Bool
+placeFits t s k = cond (ltb k (t .count)) (jobFits (taskAt t k) (s .tick .0) (jobAt s k)) (unused (jobAt s k))
+
+-- each place fits, and no resource is held twice
+unfoldable pub placesFit : Table → State → Bool
+placesFit t s = all (placeFits t s) 16 && all (alone s) 16
+
+-- "a marked position is in the table and its deadline is 0 to 65,535 ticks ahead"
+abbrev pub markFits : ℕ → ℕ → Mark → Bool
+markFits count now Absent = true
+markFits count now (At m) = ltb (m .position) count && leb (distance now (m .deadline .0)) 65535
+
+-- "making the choice again would change nothing, the job on the processor or the idling included"
+abbrev pub sameRunner : Runner → Runner → Bool
+sameRunner Runs.Nobody Runs.Nobody = true
+sameRunner Runs.Nobody (Runs.Job q) = false
+sameRunner (Runs.Job p) Runs.Nobody = false
+sameRunner (Runs.Job p) (Runs.Job q) = eqb p q
+
+abbrev pub sameMark : Mark → Mark → Bool
+sameMark Absent Absent = true
+sameMark Absent (At m) = false
+sameMark (At l) Absent = false
+sameMark (At l) (At m) = eqb (l .deadline .0) (m .deadline .0) && eqb (l .position) (m .position)
+
+abbrev pub hasBegun : State → Runner → Bool
+hasBegun s Runs.Nobody = true
+hasBegun s (Runs.Job p) = jobAt s p .started
+
+unfoldable pub unchanged : State → Turn → Bool
+unchanged s u = sameRunner (u .runner) (s .runner) && (sameMark (u .mark) (s .mark) && hasBegun s (u .runner))
+
+-- "in mid-tick", that; "between ticks there is no job on the processor"
+abbrev pub halfFits : Table → State → Half → Bool
+halfFits t s First = sameRunner Runs.Nobody (s .runner)
+halfFits t s Second = unchanged s (turn t s)
+
+unfoldable pub consistent : Table → State → Bool
+consistent t s =
+    passes t && (placesFit t s && (markFits (t .count) (s .tick .0) (s .mark) && halfFits t s (s .half)))

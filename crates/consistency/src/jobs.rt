@@ -1,0 +1,120 @@
+// What consistency asks of each job, and of the resources that they hold.
+ghost use Prim.Native.Nat.{_-_};
+ghost use mathlib.Core.Path.{_≡_};
+ghost use mathlib.Core.Bool.{cond};
+ghost use lib.ListN.{length};
+ghost use Rattle.consistency.specs.Consistency.{absentFits, pendingFits, startedFits, heldFits, jobFits, unused, isTaken, placesFit};
+use state::Held;
+use state::Job;
+use state::State;
+use table::Table;
+use table::Task;
+use units::Tick;
+use units::sets;
+
+fn absent_fits(job: Job) -> bool
+    ensures { λ r. ⌜ r ≡ absentFits job ⌝ }
+{
+    let held = job.held;
+    !job.started && (job.used.0 == 0 && (!held.any() && job.deadline.0 == 0))
+}
+
+// The ticks from a deadline to the next release: T - D.
+fn after_deadline(task: Task) -> u64
+    ensures { λ r. ⌜ r ≡ task .period .0 - task .deadline .0 ⌝ }
+{
+    if task.deadline.0 < task.period.0 {
+        return (task.period.0 - task.deadline.0) as u64;
+    }
+    0
+}
+
+fn pending_fits(task: Task, now: Tick, job: Job) -> bool
+    ensures { λ r. ⌜ r ≡ pendingFits task (now .0) job ⌝ }
+{
+    let ahead = now.distance(job.deadline) as u64;
+    let deadline = task.deadline.0 as u64;
+    let rest = after_deadline(task);
+    job.used.0 < task.budget.0
+        && (1 <= ahead && (ahead <= deadline && (job.wait.0 as u64) == ahead + rest))
+}
+
+fn started_fits(job: Job) -> bool
+    ensures { λ r. ⌜ r ≡ startedFits job ⌝ }
+{
+    let held = job.held;
+    job.started || (job.used.0 == 0 && !held.any())
+}
+
+fn held_fits(task: Task, held: Held) -> bool
+    ensures { λ r. ⌜ r ≡ heldFits task held ⌝ }
+{
+    match held {
+        Held::Nothing => true,
+        Held::In(section) => {
+            let limit = task.limit(section.resource);
+            0 < limit.0 && section.steps.0 < limit.0
+        }
+    }
+}
+
+fn job_fits(task: Task, now: Tick, job: Job) -> bool
+    ensures { λ r. ⌜ r ≡ jobFits task (now .0) job ⌝ }
+{
+    let held = job.held;
+    if task.period.0 < job.wait.0 {
+        return false;
+    }
+    if !started_fits(job) {
+        return false;
+    }
+    if !held_fits(task, held) {
+        return false;
+    }
+    if job.pending {
+        return pending_fits(task, now, job);
+    }
+    absent_fits(job)
+}
+
+// That a task has 8 limits is said here for the walk below.
+fn place_fits(task: Task, now: Tick, job: Job, used: bool) -> bool
+    ensures { λ r. ⌜ (r ≡ cond used (jobFits task (now .0) job) (unused job)) × (length (task .limits) ≡ 8) ⌝ }
+{
+    if used {
+        return job_fits(task, now, job);
+    }
+    !job.pending && (job.wait.0 == 0 && absent_fits(job))
+}
+
+// The resource that is held is in the set.
+fn is_taken(set: u16, held: Held) -> bool
+    ensures { λ r. ⌜ r ≡ isTaken set held ⌝ }
+{
+    match held {
+        Held::Nothing => false,
+        Held::In(section) => sets::has(set, section.resource as usize),
+    }
+}
+
+// Each place fits, and no resource is held by two jobs: one walk, with the set of the resources held so far.
+// A resource that fits is one of 8, so that the set tells of each that has been met.
+pub(crate) fn places_fit(table: Table, state: State) -> bool
+    ensures { λ r. ⌜ r ≡ placesFit table state ⌝ }
+{
+    let mut found = 0u16;
+    for k in 0..16 {
+        let task = table.tasks[k];
+        let job = state.jobs[k];
+        let held = job.held;
+        if !place_fits(task, state.tick, job, k < table.count) {
+            return false;
+        }
+        if is_taken(found, held) {
+            return false;
+        }
+        let next = held.join(found);
+        found = next;
+    }
+    true
+}

@@ -1,0 +1,103 @@
+// The machine's calls, for any table and any state.
+ghost use mathlib.Core.Path.{_≡_};
+ghost use Rattle.machine.specs.Machine.{midTick, released, release, choose, report};
+use consistency::consistent;
+use state::Answer;
+use state::Half;
+use state::Held;
+use state::Job;
+use state::Report;
+use state::State;
+use table::Table;
+use table::Task;
+use units::Steps;
+use units::Tick;
+
+fn mid_tick(half: Half) -> bool
+    ensures { λ r. ⌜ r ≡ midTick half ⌝ }
+{
+    match half {
+        Half::First => false,
+        Half::Second => true,
+    }
+}
+
+// The job of a task that is released.
+fn released(task: Task, now: Tick) -> Job
+    ensures { λ r. ⌜ r ≡ released task (now .0) ⌝ }
+{
+    let deadline = now.after(task.deadline);
+    let wait = task.period;
+    Job {
+        pending: true,
+        started: false,
+        deadline,
+        used: Steps(0),
+        held: Held::Nothing,
+        wait,
+    }
+}
+
+// A job of the task at a position is taken on, or refused: 9, 11, 10, 12.
+pub fn release(table: Table, state: State, position: usize) -> Answer
+    ensures { λ r. ⌜ r ≡ release table state position ⌝ }
+{
+    if !consistent(table, state) {
+        return Answer::bare(9, state);
+    }
+    let half = state.half;
+    if mid_tick(half) {
+        return Answer::bare(11, state);
+    }
+    if table.count <= position {
+        return Answer::bare(10, state);
+    }
+    let job = state.jobs[position];
+    if 0 < job.wait.0 {
+        return Answer::bare(12, state);
+    }
+    let task = table.tasks[position];
+    let mut next = state;
+    next.jobs[position] = released(task, state.tick);
+    Answer::bare(0, next)
+}
+
+// The first half of a tick: who runs, in which mode, at which speed; or refused: 9, 11.
+pub fn choose(table: Table, state: State) -> Answer
+    ensures { λ r. ⌜ r ≡ choose table state ⌝ }
+{
+    if !consistent(table, state) {
+        return Answer::bare(9, state);
+    }
+    let half = state.half;
+    if mid_tick(half) {
+        return Answer::bare(11, state);
+    }
+    let choice = choice::choose(table, state);
+    let next = choice.state;
+    let turn = choice.turn;
+    let runner = turn.runner;
+    let mode = turn.mode;
+    Answer {
+        number: 0,
+        state: next,
+        runner,
+        mode,
+        speed: turn.speed,
+        ending: 0,
+    }
+}
+
+// The second half of a tick: what the runner's job says; or refused: 9, 11, 14, 13, 15, 16.
+pub fn report(table: Table, state: State, said: Report) -> Answer
+    ensures { λ r. ⌜ r ≡ report table state said ⌝ }
+{
+    if !consistent(table, state) {
+        return Answer::bare(9, state);
+    }
+    let half = state.half;
+    if !mid_tick(half) {
+        return Answer::bare(11, state);
+    }
+    report::report(table, state, said)
+}

@@ -1,0 +1,115 @@
+-- "Second half, the report: carry on, done, take a resource, or give back."
+use Prim.Native.Nat.{ℕ, _+_, _-_, min}
+use mathlib.Core.Bool.{Bool, false, _&&_, cond}
+use mathlib.Core.List.{List, map}
+use lib.ListN.{set}
+use lib.Dec.{eqb}
+use Rattle.units.specs.Amounts.{ticks, steps, given}
+use Rattle.units.specs.Clock.{tick, after, distance}
+use Rattle.units.specs.Folds.{some}
+use Rattle.units.specs.Sets.{has}
+use Rattle.table.specs.declared.Task.{Task}
+use Rattle.table.specs.declared.Table.{Table}
+use Rattle.table.specs.Table.{taskAt, limit}
+use Rattle.state.specs.declared.Job.{Job}
+use Rattle.state.specs.declared.State.{State}
+use Rattle.state.specs.declared.Answer.{Answer}
+use Rattle.state.specs.declared.Held.{Held}
+use Rattle.state.specs.declared.Held.the-variants.{Nothing, In}
+use Rattle.state.specs.declared.Half.the-variants.{First}
+use Rattle.state.specs.declared.Runner.{Runner}
+use Rattle.state.specs.declared.Runner.the-variants as Runs
+use Rattle.state.specs.declared.Report.{Report}
+use Rattle.state.specs.declared.Report.the-variants.{CarryOn, Done, Take, Give}
+use Rattle.state.specs.State.{jobAt}
+use Rattle.state.specs.Order.{holdsAny, heldResources}
+use Rattle.state.specs.Answers.{bare}
+use Rattle.choice.specs.declared.Turn.{Turn}
+use Rattle.choice.specs.Choice.{turn}
+use Rattle.report.specs.declared.Outcome.{Outcome}
+
+-- "If it holds, its section steps rise by the speed, up to the limit."
+abbrev pub heldOn : Task → ℕ → Held → Held
+heldOn task v Nothing = Nothing
+heldOn task v (In x) = In (record { resource = x .resource; steps = steps (min (x .steps .0 + given v) (limit task (x .resource))) })
+
+-- "The runner's steps used rise by the speed, up to C."
+abbrev pub worked : Task → ℕ → Job → Job
+worked task v j =
+    record { pending = j .pending; started = j .started; deadline = j .deadline; used = steps (min (j .used .0 + given v) (task .budget .0)); held = heldOn task v (j .held); wait = j .wait }
+
+-- "An ended job is not pending and holds nothing; all its entries but the wait become 0."
+abbrev pub ended : Job → Job
+ended j = record { pending = false; started = false; deadline = tick 0; used = steps 0; held = Nothing; wait = j .wait }
+
+-- "take or give is done": "A section starts at 0 steps."
+abbrev pub holding : Held → Job → Job
+holding h j = record { pending = j .pending; started = j .started; deadline = j .deadline; used = j .used; held = h; wait = j .wait }
+
+-- "a holder at its limit"
+abbrev pub atLimit : Task → Held → Bool
+atLimit task Nothing = false
+atLimit task (In x) = eqb (x .steps .0) (limit task (x .resource))
+
+-- "Then: done ends the job; else steps used = C ends it as cut; else take or give is done; else a holder at its limit is ended as cut."
+-- The ending: "0 goes on or idle, 1 done, 2 cut"
+abbrev pub settled : Task → Report → Job → Outcome
+settled task Done j = record { job = ended j; ending = 1 }
+settled task CarryOn j =
+    cond (eqb (j .used .0) (task .budget .0)) (record { job = ended j; ending = 2 })
+    (cond (atLimit task (j .held)) (record { job = ended j; ending = 2 }) (record { job = j; ending = 0 }))
+settled task (Take r) j =
+    cond (eqb (j .used .0) (task .budget .0)) (record { job = ended j; ending = 2 })
+    (record { job = holding (In (record { resource = r; steps = steps 0 })) j; ending = 0 })
+settled task Give j =
+    cond (eqb (j .used .0) (task .budget .0)) (record { job = ended j; ending = 2 })
+    (record { job = holding Nothing j; ending = 0 })
+
+-- 14: "take while holding, give while holding none"; 13: "take of a resource above 7 or with limit 0"; 15: "take of a resource that another job holds" (the runner holds none here)
+abbrev pub objection : Task → Job → ℕ → Report → ℕ
+objection task j held CarryOn = 0
+objection task j held Done = 0
+objection task j held Give = cond (holdsAny (j .held)) 0 14
+objection task j held (Take r) = cond (holdsAny (j .held)) 14 (cond (eqb (limit task r) 0) 13 (cond (has held r) 15 0))
+
+-- "each wait above 0 falls by one"
+abbrev pub waited : Job → Job
+waited j = record { pending = j .pending; started = j .started; deadline = j .deadline; used = j .used; held = j .held; wait = ticks (j .wait .0 - 1) }
+
+-- "The tick rises by one with roll-over"; "Mode and speed are not kept"
+abbrev pub closed : State → List Job → State
+closed s jobs =
+    record { tick = tick (after (s .tick .0) 1); jobs = map waited jobs; mark = s .mark; half = First; runner = Runs.Nobody }
+
+-- 16: "a job still pending after this half would stand at its deadline"
+unfoldable pub late : State → Bool
+late s = some (λ k. jobAt s k .pending && eqb (distance (s .tick .0) (jobAt s k .deadline .0)) 0) 16
+
+-- the answer, with the tick closed
+unfoldable pub finished : State → List Job → Turn → ℕ → Answer
+finished s jobs u ending =
+    cond (late (closed s jobs)) (bare 16 s)
+    (record { number = 0; state = closed s jobs; runner = u .runner; mode = u .mode; speed = u .speed; ending = ending })
+
+-- the report of the job at p
+unfoldable pub reportRun : Table → State → Turn → ℕ → Report → Answer
+reportRun t s u p said =
+    let task = taskAt t p in
+    let number = objection task (jobAt s p) (heldResources s) said in
+    let o = settled task said (worked task (u .speed) (jobAt s p)) in
+    cond (eqb number 0) (finished s (set (s .jobs) p (o .job)) u (o .ending)) (bare number s)
+
+-- 14: "any report but carry on at an idle tick"
+abbrev pub reportIdle : State → Turn → Report → Answer
+reportIdle s u CarryOn = finished s (s .jobs) u 0
+reportIdle s u Done = bare 14 s
+reportIdle s u (Take r) = bare 14 s
+reportIdle s u Give = bare 14 s
+
+-- "the choice rules give them again": mode and speed, and who runs
+abbrev pub reportAs : Table → State → Turn → Runner → Report → Answer
+reportAs t s u Runs.Nobody said = reportIdle s u said
+reportAs t s u (Runs.Job p) said = reportRun t s u p said
+
+unfoldable pub report : Table → State → Report → Answer
+report t s said = let u = turn t s in reportAs t s u (u .runner) said

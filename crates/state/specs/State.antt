@@ -1,0 +1,34 @@
+-- The state, and a fresh start.
+use Prim.Native.Nat.{ℕ}
+use mathlib.Core.Bool.{true, false, cond}
+use lib.ListN.{getD}
+use lib.Dec.{eqb}
+use Rattle.units.specs.declared.Tick.{Tick}
+use Rattle.units.specs.Amounts.{ticks, steps}
+use Rattle.units.specs.Clock.{tick}
+use Rattle.units.specs.Folds.{listed}
+use Rattle.table.specs.declared.Table.{Table}
+use Rattle.admission.specs.Admission.{answer, verdict}
+use Rattle.state.specs.declared.Job.{Job}
+use Rattle.state.specs.declared.State.{State}
+use Rattle.state.specs.declared.Start.{Start}
+use Rattle.state.specs.declared.Held.the-variants.{Nothing}
+use Rattle.state.specs.declared.Mark.the-variants.{Absent}
+use Rattle.state.specs.declared.Half.the-variants.{First}
+use Rattle.state.specs.declared.Runner.the-variants.{Nobody}
+
+-- "What is not in use is 0"
+abbrev pub noJob : Job
+noJob = record { pending = false; started = false; deadline = tick 0; used = steps 0; held = Nothing; wait = ticks 0 }
+
+-- "The state holds for each task": the job at a position
+abbrev pub jobAt : State → ℕ → Job
+jobAt s k = getD (s .jobs) k noJob
+
+-- "A fresh state has no jobs, no waits, no mark, and any starting tick that is asked for."
+unfoldable pub empty : Tick → State
+empty now = record { tick = now; jobs = listed (λ k. noJob) 16; mark = Absent; half = First; runner = Nobody }
+
+-- "A fresh start gives the table's number and, where that is not 0, a state of zeros."
+unfoldable pub fresh : Table → Tick → Start
+fresh t now = record { verdict = verdict t; state = empty (cond (eqb (answer (verdict t) .0) 0) now (tick 0)) }

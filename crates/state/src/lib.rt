@@ -1,0 +1,153 @@
+// What the machine keeps from call to call, and what its calls are told and answer.
+ghost use mathlib.Core.Path.{_≡_};
+ghost use Rattle.state.specs.State.{fresh};
+ghost use Rattle.state.specs.Answers.{bare};
+use admission::Verdict;
+use table::Table;
+use units::Steps;
+use units::Tick;
+use units::Ticks;
+
+mod holders;
+pub mod order;
+
+// A resource that is held, and the steps since it was taken.
+pub struct Section {
+    pub resource: u8,
+    pub steps: Steps,
+}
+
+pub enum Held {
+    Nothing,
+    In(Section),
+}
+
+// The job of one task. What is not in use is 0.
+pub struct Job {
+    pub pending: bool,
+    pub started: bool,
+    pub deadline: Tick,
+    pub used: Steps,
+    pub held: Held,
+    pub wait: Ticks,
+}
+
+pub struct Place {
+    pub deadline: Tick,
+    pub position: u8,
+}
+
+pub enum Mark {
+    Absent,
+    At(Place),
+}
+
+// The half of a tick that comes next: the first between ticks, the second in mid-tick.
+pub enum Half {
+    First,
+    Second,
+}
+
+// The job on the processor.
+pub enum Runner {
+    Nobody,
+    Job(u8),
+}
+
+pub struct State {
+    pub tick: Tick,
+    pub jobs: [Job; 16],
+    pub mark: Mark,
+    pub half: Half,
+    pub runner: Runner,
+}
+
+pub enum Mode {
+    Independent,
+    Synchronization,
+}
+
+// What the runner's job says at the end of its tick.
+pub enum Report {
+    CarryOn,
+    Done,
+    Take(u8),
+    Give,
+}
+
+// What a release, a choice or a report answers.
+pub struct Answer {
+    pub number: u8,
+    pub state: State,
+    pub runner: Runner,
+    pub mode: Mode,
+    pub speed: u8,
+    pub ending: u8,
+}
+
+pub struct Start {
+    pub verdict: Verdict,
+    pub state: State,
+}
+
+impl Job {
+    pub const NONE: Job = Job {
+        pending: false,
+        started: false,
+        deadline: Tick(0),
+        used: Steps(0),
+        held: Held::Nothing,
+        wait: Ticks(0),
+    };
+}
+
+impl State {
+    pub const TASKS: usize = 16;
+
+    pub const RESOURCES: u8 = 8;
+
+    // A marked deadline is at most so far ahead.
+    pub const AHEAD: u32 = 65535;
+
+    // The table's verdict; a state without jobs, waits or mark, at the tick where the table passes.
+    pub fn fresh(table: Table, tick: Tick) -> Start
+        ensures { λ r. ⌜ r ≡ fresh table tick ⌝ }
+    {
+        let verdict = Verdict::of(table);
+        let mut now = Tick(0);
+        if verdict.number() == 0 {
+            now = tick;
+        }
+        let jobs = [Job::NONE; 16];
+        let state = State {
+            tick: now,
+            jobs,
+            mark: Mark::Absent,
+            half: Half::First,
+            runner: Runner::Nobody,
+        };
+        Start { verdict, state }
+    }
+}
+
+impl Answer {
+    pub const GOES_ON: u8 = 0;
+
+    pub const DONE: u8 = 1;
+
+    pub const CUT: u8 = 2;
+
+    // An answer that names no job, as every refusal is: independent, speed 0, ending 0.
+    pub fn bare(number: u8, state: State) -> Answer
+        ensures { λ r. ⌜ r ≡ bare number state ⌝ }
+    {
+        Answer {
+            number,
+            state,
+            runner: Runner::Nobody,
+            mode: Mode::Independent,
+            speed: 0,
+            ending: 0,
+        }
+    }
+}

@@ -1,0 +1,78 @@
+// The order of the jobs, as one number for each place in it.
+ghost use mathlib.Core.Path.{_≡_};
+ghost use mathlib.Core.Bool.{cond};
+ghost use Prim.Native.Nat.{min, max};
+ghost use Rattle.state.specs.Order.{place, first, isPending, isStarted, lastHolder};
+use crate::Job;
+use crate::State;
+use crate::holders::holds_behind;
+use units::Tick;
+
+// A place in the order: nearer deadline first, equal deadlines by lower position.
+pub fn place(now: Tick, deadline: Tick, position: u8) -> u64
+    ensures { λ r. ⌜ r ≡ place (now .0) (deadline .0) position ⌝ }
+{
+    (now.distance(deadline) as u64) * 256 + (position as u64)
+}
+
+fn nearer(best: u64, counts: bool, place: u64) -> u64
+    ensures { λ r. ⌜ r ≡ cond counts (min best place) best ⌝ }
+{
+    if counts {
+        if place < best {
+            return place;
+        }
+    }
+    best
+}
+
+fn farther(best: u64, counts: bool, place: u64) -> u64
+    ensures { λ r. ⌜ r ≡ cond counts (max best place) best ⌝ }
+{
+    if counts {
+        if best < place {
+            return place;
+        }
+    }
+    best
+}
+
+fn wanted(job: Job, started: bool) -> bool
+    ensures { λ r. ⌜ r ≡ cond started (isStarted job) (isPending job) ⌝ }
+{
+    if started {
+        return job.pending && job.started;
+    }
+    job.pending
+}
+
+impl State {
+    // Behind every place.
+    pub const NO_PLACE: u64 = 1099511627776;
+
+    // The place of the first in order among the pending jobs, or among the started ones.
+    pub fn first(self, started: bool) -> u64
+        ensures { λ r. ⌜ r ≡ first (λ j. cond started (isStarted j) (isPending j)) self ⌝ }
+    {
+        let mut best: u64 = 1099511627776;
+        for k in 0..16 {
+            let job = self.jobs[k];
+            let at = place(self.tick, job.deadline, k as u8);
+            best = nearer(best, wanted(job, started), at);
+        }
+        best
+    }
+
+    // The place of the last in order among the holders behind a place; 0 where there is none.
+    pub fn last_holder(self, behind: u64) -> u64
+        ensures { λ r. ⌜ r ≡ lastHolder self behind ⌝ }
+    {
+        let mut best: u64 = 0;
+        for k in 0..16 {
+            let job = self.jobs[k];
+            let at = place(self.tick, job.deadline, k as u8);
+            best = farther(best, holds_behind(job, at, behind), at);
+        }
+        best
+    }
+}
