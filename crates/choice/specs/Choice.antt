@@ -1,36 +1,18 @@
 -- "First half, the choice."
 use Prim.Native.Nat.{ℕ, _/_, min, max}
-use mathlib.Core.Bool.{Bool, true, false, not, _&&_, cond}
-use mathlib.Core.List.{List}
-use lib.ListN.{getD, set}
-use lib.Dec.{ltb, leb, eqb}
-use Rattle.units.specs.declared.Ticks.{Ticks}
-use Rattle.units.specs.Amounts.{ticks}
-use Rattle.units.specs.Clock.{tick, after}
-use Rattle.units.specs.Folds.{smallest, largest, some}
-use Rattle.table.specs.declared.Task.{Task}
-use Rattle.table.specs.declared.Table.{Table}
-use Rattle.table.specs.Table.{taskAt, D, S, ceilings}
-use Rattle.state.specs.declared.Job.{Job}
-use Rattle.state.specs.declared.State.{State}
-use Rattle.state.specs.declared.Held.{Held}
-use Rattle.state.specs.declared.Held.the-variants.{Nothing, In}
-use Rattle.state.specs.declared.Mark.{Mark}
-use Rattle.state.specs.declared.Mark.the-variants.{Absent, At}
-use Rattle.state.specs.declared.Half.the-variants.{Second}
-use Rattle.state.specs.declared.Runner.{Runner}
+use mathlib.Core.{Bool.Bool, Bool.true, Bool.false, Bool.not, Bool._&&_, Bool.cond, List.List}
+use lib.{ListN.getD, ListN.set, Dec.ltb, Dec.leb, Dec.eqb}
+use Rattle.units.specs.{declared.Ticks.Ticks, Amounts.ticks, Clock.tick, Clock.after, Folds.smallest, Folds.largest, Folds.some}
+use Rattle.table.specs.{declared.Task.Task, declared.Table.Table, Table.taskAt, Table.D, Table.S, Table.ceilings}
+use Rattle.state.specs.{declared.Job.Job, declared.State.State, declared.Held.Held, declared.Held.the-variants.Nothing, declared.Held.the-variants.In, declared.Mark.Mark, declared.Mark.the-variants.Absent, declared.Mark.the-variants.At, declared.Half.the-variants.Second, declared.Runner.Runner, declared.Mode.the-variants.Independent, declared.Mode.the-variants.Synchronization, State.jobAt, Order.place, Order.placeAt, Order.positionOf, Order.noPlace, Order.isPending, Order.isStarted, Order.firstInOrder, Order.lastHolder}
+use Rattle.choice.specs.{declared.Turn.Turn, declared.Choice.Choice}
 use Rattle.state.specs.declared.Runner.the-variants as Runs
-use Rattle.state.specs.declared.Mode.the-variants.{Independent, Synchronization}
-use Rattle.state.specs.State.{jobAt}
-use Rattle.state.specs.Order.{place, placeAt, positionOf, noPlace, isPending, isStarted, isHolder, first, lastHolder}
-use Rattle.choice.specs.declared.Turn.{Turn}
-use Rattle.choice.specs.declared.Choice.{Choice}
 
--- "top is the first pending job in order"
+-- "top is the first pending job in order": its place
 abbrev pub top : State → ℕ
-top s = first isPending s
+top s = firstInOrder isPending s
 
--- "holds a resource whose ceiling is at most top's D"
+-- "holds a resource whose ceiling is at most top's D"; a resource above 7 has none, which reads as 0
 abbrev pub bars : List Ticks → ℕ → Held → Bool
 bars ceilings d Nothing = false
 bars ceilings d (In x) = leb (getD ceilings (x .resource) (ticks 0) .0) d
@@ -40,11 +22,11 @@ unfoldable pub blocked : Table → State → ℕ → Bool
 blocked t s p =
     not (jobAt s p .started) && some (λ k. bars (ceilings t) (D t p) (jobAt s k .held) && (jobAt s k .pending && not (eqb k p))) 16
 
--- "The runner is top if not blocked, else the first started job in order."
+-- "The runner is top if not blocked, else the first started job in order.": its place. A blocked top of a consistent state has a started job behind it.
 unfoldable pub runner : Table → State → ℕ
-runner t s = cond (blocked t s (positionOf (top s))) (first isStarted s) (top s)
+runner t s = cond (blocked t s (positionOf (top s))) (firstInOrder isStarted s) (top s)
 
--- "the shortest D of the jobs ahead of it"
+-- "the shortest D of the jobs ahead of it"; top is one where this is asked
 unfoldable pub shortestAhead : Table → State → ℕ → ℕ
 shortestAhead t s run = smallest (λ k. jobAt s k .pending && ltb (placeAt s k) run) (D t) 65535 16
 
@@ -67,9 +49,9 @@ unfoldable pub markAt : ℕ → ℕ → Mark
 markAt now at = At (record { deadline = tick (after now (at / 256)); position = positionOf at })
 
 -- 3. "A mark stands and the runner is the marked job or behind it: mark removed, independent, speed I." 4. "A mark stands: synchronization, speed S." 5. "Independent, speed I."
-abbrev pub unblocked : Mark → ℕ → ℕ → Task → Turn
-unblocked Absent old run task = record { runner = Runs.Job (positionOf run); mark = Absent; mode = Independent; speed = task .independent }
-unblocked (At m) old run task =
+abbrev pub noHolderBehind : Mark → ℕ → ℕ → Task → Turn
+noHolderBehind Absent old run task = record { runner = Runs.Job (positionOf run); mark = Absent; mode = Independent; speed = task .independent }
+noHolderBehind (At m) old run task =
     cond (leb old run)
     (record { runner = Runs.Job (positionOf run); mark = Absent; mode = Independent; speed = task .independent })
     (record { runner = Runs.Job (positionOf run); mark = At m; mode = Synchronization; speed = task .synchronization })
@@ -86,7 +68,7 @@ rules t s run =
     (record { runner = Runs.Job (positionOf run); mark = markAt now (max old (max run last)); mode = Synchronization; speed = inherited t s run })
     (cond (ltb 0 last)
     (record { runner = Runs.Job (positionOf run); mark = markAt now (max old last); mode = Synchronization; speed = task .synchronization })
-    (unblocked (s .mark) old run task))
+    (noHolderBehind (s .mark) old run task))
 
 -- "With no pending job the processor idles: independent, speed 0, mark removed."
 abbrev pub idle : Turn

@@ -4,8 +4,8 @@ ghost use mathlib.Core.Bool.{cond, _&&_};
 ghost use lib.Dec.{ltb, leb};
 ghost use Prim.Native.Nat.{_<_, min, max};
 ghost use Rattle.units.specs.Amounts.{ticks};
-ghost use Rattle.state.specs.Order.{positionOf, first, isPending};
-ghost use Rattle.choice.specs.Choice.{shortestAhead, fastest, inherited, markPlace, markAt, unblocked, rules};
+ghost use Rattle.state.specs.Order.{positionOf, firstInOrder, isPending};
+ghost use Rattle.choice.specs.Choice.{shortestAhead, fastest, inherited, markPlace, markAt, noHolderBehind, rules};
 use crate::Turn;
 use crate::runner::position;
 use state::Job;
@@ -134,8 +134,8 @@ fn mark_at(now: Tick, place: u64) -> Mark
 }
 
 // Rules 3, 4 and 5, of a runner that is top and has no holder behind it.
-fn unblocked(mark: Mark, old: u64, run: u64, task: Task) -> Turn
-    ensures { λ r. ⌜ r ≡ unblocked mark old run task ⌝ }
+fn no_holder_behind(mark: Mark, old: u64, run: u64, task: Task) -> Turn
+    ensures { λ r. ⌜ r ≡ noHolderBehind mark old run task ⌝ }
 {
     let runner = Runner::Job(position(run));
     match mark {
@@ -166,7 +166,7 @@ fn unblocked(mark: Mark, old: u64, run: u64, task: Task) -> Turn
 
 // Rules 1 and 2, then the others.
 pub(crate) fn rules(table: Table, state: State, top: u64, run: u64) -> Turn
-    requires { ⌜ (top ≡ first isPending state) × (positionOf run < 16) ⌝ }
+    requires { ⌜ (top ≡ firstInOrder isPending state) × (positionOf run < 16) ⌝ }
     ensures { λ r. ⌜ r ≡ rules table state run ⌝ }
 {
     let mark = state.mark;
@@ -193,5 +193,5 @@ pub(crate) fn rules(table: Table, state: State, top: u64, run: u64) -> Turn
             speed: task.synchronization,
         };
     }
-    unblocked(mark, old, run, task)
+    no_holder_behind(mark, old, run, task)
 }

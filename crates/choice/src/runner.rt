@@ -4,7 +4,7 @@ ghost use mathlib.Core.Bool.{_&&_};
 ghost use Prim.Native.Nat.{_<_};
 ghost use lib.ListN.{getD};
 ghost use Rattle.units.specs.Amounts.{ticks};
-ghost use Rattle.state.specs.Order.{positionOf, first, isPending};
+ghost use Rattle.state.specs.Order.{positionOf, firstInOrder, isPending};
 ghost use Rattle.choice.specs.Choice.{bars, blocked, runner, begin};
 use state::Held;
 use state::Job;
@@ -64,7 +64,7 @@ fn blocked(table: Table, state: State, top: usize) -> bool
 
 // The place of the runner: top's, or where that is blocked the first started job's.
 pub(crate) fn runner(table: Table, state: State, top: u64) -> u64
-    requires { ⌜ (top ≡ first isPending state) × (positionOf top < 16) ⌝ }
+    requires { ⌜ (top ≡ firstInOrder isPending state) × (positionOf top < 16) ⌝ }
     ensures { λ r. ⌜ r ≡ runner table state ⌝ }
 {
     if blocked(table, state, position(top) as usize) {

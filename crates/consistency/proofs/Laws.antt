@@ -1,5 +1,6 @@
-pub mod Tests
-pub mod Jobs
-pub mod Held
-pub mod Places
 pub mod Facts
+pub mod Held
+pub mod Jobs
+pub mod Middle
+pub mod Places
+pub mod Tests

@@ -1,36 +1,16 @@
 -- "A state is consistent when":
 use Prim.Native.Nat.{ℕ, _+_, _-_}
-use mathlib.Core.Bool.{Bool, true, false, not, _&&_, _||_, cond}
-use lib.Dec.{ltb, leb, eqb}
-use Rattle.units.specs.Clock.{distance}
-use Rattle.units.specs.Folds.{all}
-use Rattle.units.specs.Sets.{has}
-use Rattle.table.specs.declared.Task.{Task}
-use Rattle.table.specs.declared.Table.{Table}
-use Rattle.table.specs.Table.{taskAt, limit}
-use Rattle.admission.specs.Admission.{answer, verdict}
-use Rattle.state.specs.declared.Job.{Job}
-use Rattle.state.specs.declared.State.{State}
-use Rattle.state.specs.declared.Held.{Held}
-use Rattle.state.specs.declared.Held.the-variants.{Nothing, In}
-use Rattle.state.specs.declared.Mark.{Mark}
-use Rattle.state.specs.declared.Mark.the-variants.{Absent, At}
-use Rattle.state.specs.declared.Half.{Half}
-use Rattle.state.specs.declared.Half.the-variants.{First, Second}
-use Rattle.state.specs.declared.Runner.{Runner}
+use mathlib.Core.{Bool.Bool, Bool.true, Bool.false, Bool.not, Bool._&&_, Bool._||_, Bool.cond}
+use lib.{Dec.ltb, Dec.leb, Dec.eqb}
+use Rattle.units.specs.{Clock.distance, Folds.all, Sets.has}
+use Rattle.table.specs.{declared.Task.Task, declared.Table.Table, Table.taskAt, Table.limit}
+use Rattle.state.specs.{declared.Job.Job, declared.State.State, declared.Held.Held, declared.Held.the-variants.Nothing, declared.Held.the-variants.In, declared.Mark.Mark, declared.Mark.the-variants.Absent, declared.Mark.the-variants.At, declared.Half.Half, declared.Half.the-variants.First, declared.Half.the-variants.Second, declared.Runner.Runner, State.jobAt, State.passes, Order.holdsAny, Order.holds}
+use Rattle.choice.specs.{declared.Turn.Turn, Choice.turn}
 use Rattle.state.specs.declared.Runner.the-variants as Runs
-use Rattle.state.specs.State.{jobAt}
-use Rattle.state.specs.Order.{holdsAny, holds}
-use Rattle.choice.specs.declared.Turn.{Turn}
-use Rattle.choice.specs.Choice.{turn}
-
--- "the table passes"
-unfoldable pub passes : Table → Bool
-passes t = eqb (answer (verdict t) .0) 0
 
 -- "a job that is not pending is not started, has used 0 and holds nothing"; "what is not in use is 0": its deadline
-unfoldable pub absentFits : Job → Bool
-absentFits j = not (j .started) && (eqb (j .used .0) 0 && (not (holdsAny (j .held)) && eqb (j .deadline .0) 0))
+unfoldable pub notPendingFits : Job → Bool
+notPendingFits j = not (j .started) && (eqb (j .used .0) 0 && (not (holdsAny (j .held)) && eqb (j .deadline .0) 0))
 
 -- "a pending job has used less than C, its deadline is 1 to D ticks ahead, and its wait is that distance plus T - D"
 unfoldable pub pendingFits : Task → ℕ → Job → Bool
@@ -67,18 +47,18 @@ waitFits task j = leb (j .wait .0) (task .period .0)
 
 unfoldable pub jobFits : Task → ℕ → Job → Bool
 jobFits task now j =
-    waitFits task j && (startedFits j && (heldFits task (j .held) && cond (j .pending) (pendingFits task now j) (absentFits j)))
+    waitFits task j && (startedFits j && (heldFits task (j .held) && cond (j .pending) (pendingFits task now j) (notPendingFits j)))
 
 -- "what is not in use is 0": "every place past the task count"
 unfoldable pub unused : Job → Bool
-unused j = not (j .pending) && (eqb (j .wait .0) 0 && absentFits j)
+unused j = not (j .pending) && (eqb (j .wait .0) 0 && notPendingFits j)
 
-unfoldable pub placeFits : Table → State → ℕ → Bool
-placeFits t s k = cond (ltb k (t .count)) (jobFits (taskAt t k) (s .tick .0) (jobAt s k)) (unused (jobAt s k))
+unfoldable pub positionFits : Table → State → ℕ → Bool
+positionFits t s k = cond (ltb k (t .count)) (jobFits (taskAt t k) (s .tick .0) (jobAt s k)) (unused (jobAt s k))
 
--- each place fits, and no resource is held twice
-unfoldable pub placesFit : Table → State → Bool
-placesFit t s = all (placeFits t s) 16 && all (alone s) 16
+-- all of these, at each position
+unfoldable pub positionsFit : Table → State → Bool
+positionsFit t s = all (positionFits t s) 16 && all (alone s) 16
 
 -- "a marked position is in the table and its deadline is 0 to 65,535 ticks ahead"
 abbrev pub markFits : ℕ → ℕ → Mark → Bool
@@ -112,4 +92,4 @@ halfFits t s Second = unchanged s (turn t s)
 
 unfoldable pub consistent : Table → State → Bool
 consistent t s =
-    passes t && (placesFit t s && (markFits (t .count) (s .tick .0) (s .mark) && halfFits t s (s .half)))
+    passes t && (positionsFit t s && (markFits (t .count) (s .tick .0) (s .mark) && halfFits t s (s .half)))

@@ -3,7 +3,7 @@ ghost use Prim.Native.Nat.{_-_};
 ghost use mathlib.Core.Path.{_≡_};
 ghost use mathlib.Core.Bool.{cond};
 ghost use lib.ListN.{length};
-ghost use Rattle.consistency.specs.Consistency.{absentFits, pendingFits, startedFits, heldFits, jobFits, unused, isTaken, placesFit};
+ghost use Rattle.consistency.specs.Consistency.{notPendingFits, pendingFits, startedFits, heldFits, jobFits, unused, isTaken, positionsFit};
 use state::Held;
 use state::Job;
 use state::State;
@@ -12,8 +12,8 @@ use table::Task;
 use units::Tick;
 use units::sets;
 
-fn absent_fits(job: Job) -> bool
-    ensures { λ r. ⌜ r ≡ absentFits job ⌝ }
+fn not_pending_fits(job: Job) -> bool
+    ensures { λ r. ⌜ r ≡ notPendingFits job ⌝ }
 {
     let held = job.held;
     !job.started && (job.used.0 == 0 && (!held.any() && job.deadline.0 == 0))
@@ -74,17 +74,17 @@ fn job_fits(task: Task, now: Tick, job: Job) -> bool
     if job.pending {
         return pending_fits(task, now, job);
     }
-    absent_fits(job)
+    not_pending_fits(job)
 }
 
 // That a task has 8 limits is said here for the walk below.
-fn place_fits(task: Task, now: Tick, job: Job, used: bool) -> bool
+fn position_fits(task: Task, now: Tick, job: Job, used: bool) -> bool
     ensures { λ r. ⌜ (r ≡ cond used (jobFits task (now .0) job) (unused job)) × (length (task .limits) ≡ 8) ⌝ }
 {
     if used {
         return job_fits(task, now, job);
     }
-    !job.pending && (job.wait.0 == 0 && absent_fits(job))
+    !job.pending && (job.wait.0 == 0 && not_pending_fits(job))
 }
 
 // The resource that is held is in the set.
@@ -99,15 +99,15 @@ fn is_taken(set: u16, held: Held) -> bool
 
 // Each place fits, and no resource is held by two jobs: one walk, with the set of the resources held so far.
 // A resource that fits is one of 8, so that the set tells of each that has been met.
-pub(crate) fn places_fit(table: Table, state: State) -> bool
-    ensures { λ r. ⌜ r ≡ placesFit table state ⌝ }
+pub(crate) fn positions_fit(table: Table, state: State) -> bool
+    ensures { λ r. ⌜ r ≡ positionsFit table state ⌝ }
 {
     let mut found = 0u16;
     for k in 0..16 {
         let task = table.tasks[k];
         let job = state.jobs[k];
         let held = job.held;
-        if !place_fits(task, state.tick, job, k < table.count) {
+        if !position_fits(task, state.tick, job, k < table.count) {
             return false;
         }
         if is_taken(found, held) {

@@ -42,7 +42,7 @@ pub fn consistent(table: Table, state: State) -> bool
     if verdict.number() != 0 {
         return false;
     }
-    if !jobs::places_fit(table, state) {
+    if !jobs::positions_fit(table, state) {
         return false;
     }
     let mark = state.mark;

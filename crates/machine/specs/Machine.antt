@@ -1,26 +1,13 @@
 -- The calls, for any table and any state, with their numbers.
 use Prim.Native.Nat.{ℕ}
-use mathlib.Core.Bool.{Bool, true, false, not, cond}
-use lib.ListN.{set}
-use lib.Dec.{ltb, leb}
-use Rattle.units.specs.Amounts.{steps}
-use Rattle.units.specs.Clock.{tick, after}
-use Rattle.table.specs.declared.Task.{Task}
-use Rattle.table.specs.declared.Table.{Table}
-use Rattle.table.specs.Table.{taskAt}
-use Rattle.state.specs.declared.Job.{Job}
-use Rattle.state.specs.declared.State.{State}
-use Rattle.state.specs.declared.Answer.{Answer}
-use Rattle.state.specs.declared.Held.the-variants.{Nothing}
-use Rattle.state.specs.declared.Half.{Half}
-use Rattle.state.specs.declared.Half.the-variants.{First, Second}
-use Rattle.state.specs.declared.Report.{Report}
-use Rattle.state.specs.State.{jobAt}
-use Rattle.state.specs.Answers.{bare}
-use Rattle.choice.specs.declared.Choice.{Choice}
-use Rattle.choice.specs.Choice.{choice}
+use mathlib.Core.{Bool.Bool, Bool.true, Bool.false, Bool.not, Bool.cond}
+use lib.{ListN.set, Dec.ltb, Dec.leb}
+use Rattle.units.specs.{Amounts.steps, Clock.tick, Clock.after}
+use Rattle.table.specs.{declared.Task.Task, declared.Table.Table, Table.taskAt}
+use Rattle.state.specs.{declared.Job.Job, declared.State.State, declared.Answer.Answer, declared.Held.the-variants.Nothing, declared.Half.Half, declared.Half.the-variants.First, declared.Half.the-variants.Second, declared.Report.Report, State.jobAt, Answers.bare}
+use Rattle.choice.specs.{declared.Choice.Choice, Choice.choice}
+use Rattle.consistency.specs.{Consistency.consistent}
 use Rattle.report.specs.Report as AtReport
-use Rattle.consistency.specs.Consistency.{consistent}
 
 -- "in mid-tick"
 abbrev pub midTick : Half → Bool

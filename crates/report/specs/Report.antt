@@ -1,32 +1,13 @@
 -- "Second half, the report: carry on, done, take a resource, or give back."
 use Prim.Native.Nat.{ℕ, _+_, _-_, min}
-use mathlib.Core.Bool.{Bool, false, _&&_, cond}
-use mathlib.Core.List.{List, map}
-use lib.ListN.{set}
-use lib.Dec.{eqb}
-use Rattle.units.specs.Amounts.{ticks, steps, given}
-use Rattle.units.specs.Clock.{tick, after, distance}
-use Rattle.units.specs.Folds.{some}
-use Rattle.units.specs.Sets.{has}
-use Rattle.table.specs.declared.Task.{Task}
-use Rattle.table.specs.declared.Table.{Table}
-use Rattle.table.specs.Table.{taskAt, limit}
-use Rattle.state.specs.declared.Job.{Job}
-use Rattle.state.specs.declared.State.{State}
-use Rattle.state.specs.declared.Answer.{Answer}
-use Rattle.state.specs.declared.Held.{Held}
-use Rattle.state.specs.declared.Held.the-variants.{Nothing, In}
-use Rattle.state.specs.declared.Half.the-variants.{First}
-use Rattle.state.specs.declared.Runner.{Runner}
+use mathlib.Core.{Bool.Bool, Bool.false, Bool._&&_, Bool.cond, List.List, List.map}
+use lib.{ListN.set, Dec.eqb}
+use Rattle.units.specs.{Amounts.ticks, Amounts.steps, Amounts.given, Clock.tick, Clock.after, Clock.distance, Folds.some, Sets.has}
+use Rattle.table.specs.{declared.Task.Task, declared.Table.Table, Table.taskAt, Table.limit}
+use Rattle.state.specs.{declared.Job.Job, declared.State.State, declared.Answer.Answer, declared.Held.Held, declared.Held.the-variants.Nothing, declared.Held.the-variants.In, declared.Half.the-variants.First, declared.Runner.Runner, declared.Report.Report, declared.Report.the-variants.CarryOn, declared.Report.the-variants.Done, declared.Report.the-variants.Take, declared.Report.the-variants.Give, State.jobAt, Order.holdsAny, Order.heldResources, Answers.bare}
+use Rattle.choice.specs.{declared.Turn.Turn, Choice.turn}
+use Rattle.report.specs.{declared.Outcome.Outcome}
 use Rattle.state.specs.declared.Runner.the-variants as Runs
-use Rattle.state.specs.declared.Report.{Report}
-use Rattle.state.specs.declared.Report.the-variants.{CarryOn, Done, Take, Give}
-use Rattle.state.specs.State.{jobAt}
-use Rattle.state.specs.Order.{holdsAny, heldResources}
-use Rattle.state.specs.Answers.{bare}
-use Rattle.choice.specs.declared.Turn.{Turn}
-use Rattle.choice.specs.Choice.{turn}
-use Rattle.report.specs.declared.Outcome.{Outcome}
 
 -- "If it holds, its section steps rise by the speed, up to the limit."
 abbrev pub heldOn : Task → ℕ → Held → Held
@@ -76,7 +57,7 @@ objection task j held (Take r) = cond (holdsAny (j .held)) 14 (cond (eqb (limit 
 abbrev pub waited : Job → Job
 waited j = record { pending = j .pending; started = j .started; deadline = j .deadline; used = j .used; held = j .held; wait = ticks (j .wait .0 - 1) }
 
--- "The tick rises by one with roll-over"; "Mode and speed are not kept"
+-- "The tick rises by one with roll-over"; "between ticks there is no job on the processor"
 abbrev pub closed : State → List Job → State
 closed s jobs =
     record { tick = tick (after (s .tick .0) 1); jobs = map waited jobs; mark = s .mark; half = First; runner = Runs.Nobody }
@@ -106,7 +87,7 @@ reportIdle s u Done = bare 14 s
 reportIdle s u (Take r) = bare 14 s
 reportIdle s u Give = bare 14 s
 
--- "the choice rules give them again": mode and speed, and who runs
+-- "Mode and speed are not kept; the choice rules give them again.": so with who runs
 abbrev pub reportAs : Table → State → Turn → Runner → Report → Answer
 reportAs t s u Runs.Nobody said = reportIdle s u said
 reportAs t s u (Runs.Job p) said = reportRun t s u p said

@@ -1,15 +1,9 @@
 -- The order of the jobs, and who holds what.
 use Prim.Native.Nat.{ℕ, _+_, _*_, _%_, _^_}
-use mathlib.Core.Bool.{Bool, true, false, _&&_}
-use lib.Dec.{ltb, eqb}
-use Rattle.units.specs.Clock.{distance}
-use Rattle.units.specs.Folds.{smallest, largest, some}
-use Rattle.units.specs.Sets.{set, with}
-use Rattle.state.specs.declared.Job.{Job}
-use Rattle.state.specs.declared.Held.{Held}
-use Rattle.state.specs.declared.Held.the-variants.{Nothing, In}
-use Rattle.state.specs.declared.State.{State}
-use Rattle.state.specs.State.{jobAt}
+use mathlib.Core.{Bool.Bool, Bool.true, Bool.false, Bool._&&_}
+use lib.{Dec.ltb, Dec.eqb}
+use Rattle.units.specs.{Clock.distance, Folds.smallest, Folds.largest, Folds.some, Sets.set, Sets.with}
+use Rattle.state.specs.{declared.Job.Job, declared.Held.Held, declared.Held.the-variants.Nothing, declared.Held.the-variants.In, declared.State.State, State.jobAt}
 
 -- "Order: nearer deadline first; equal deadlines by lower position.": a place in the order as one number, the smaller the nearer
 unfoldable pub place : ℕ → ℕ → ℕ → ℕ
@@ -42,8 +36,8 @@ abbrev pub isHolder : Job → Bool
 isHolder j = holdsAny (j .held) && j .pending
 
 -- the place of the first job in order that has p; noPlace where none has
-unfoldable pub first : (Job → Bool) → State → ℕ
-first p s = smallest (λ k. p (jobAt s k)) (placeAt s) noPlace 16
+unfoldable pub firstInOrder : (Job → Bool) → State → ℕ
+firstInOrder p s = smallest (λ k. p (jobAt s k)) (placeAt s) noPlace 16
 
 -- the place of the last in order among the holders behind a place; 0 where there is none
 unfoldable pub lastHolder : State → ℕ → ℕ

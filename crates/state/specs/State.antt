@@ -1,21 +1,11 @@
 -- The state, and a fresh start.
 use Prim.Native.Nat.{ℕ}
-use mathlib.Core.Bool.{true, false, cond}
-use lib.ListN.{getD}
-use lib.Dec.{eqb}
-use Rattle.units.specs.declared.Tick.{Tick}
-use Rattle.units.specs.Amounts.{ticks, steps}
-use Rattle.units.specs.Clock.{tick}
-use Rattle.units.specs.Folds.{listed}
-use Rattle.table.specs.declared.Table.{Table}
-use Rattle.admission.specs.Admission.{answer, verdict}
-use Rattle.state.specs.declared.Job.{Job}
-use Rattle.state.specs.declared.State.{State}
-use Rattle.state.specs.declared.Start.{Start}
-use Rattle.state.specs.declared.Held.the-variants.{Nothing}
-use Rattle.state.specs.declared.Mark.the-variants.{Absent}
-use Rattle.state.specs.declared.Half.the-variants.{First}
-use Rattle.state.specs.declared.Runner.the-variants.{Nobody}
+use mathlib.Core.{Bool.Bool, Bool.false, Bool.cond}
+use lib.{ListN.getD, Dec.eqb}
+use Rattle.units.specs.{declared.Tick.Tick, Amounts.ticks, Amounts.steps, Clock.tick, Folds.listed}
+use Rattle.table.specs.{declared.Table.Table}
+use Rattle.admission.specs.{Admission.answer, Admission.verdict}
+use Rattle.state.specs.{declared.Job.Job, declared.State.State, declared.Start.Start, declared.Held.the-variants.Nothing, declared.Mark.the-variants.Absent, declared.Half.the-variants.First, declared.Runner.the-variants.Nobody}
 
 -- "What is not in use is 0"
 abbrev pub noJob : Job
@@ -29,6 +19,10 @@ jobAt s k = getD (s .jobs) k noJob
 unfoldable pub empty : Tick → State
 empty now = record { tick = now; jobs = listed (λ k. noJob) 16; mark = Absent; half = First; runner = Nobody }
 
+-- "the table passes"
+unfoldable pub passes : Table → Bool
+passes t = eqb (answer (verdict t) .0) 0
+
 -- "A fresh start gives the table's number and, where that is not 0, a state of zeros."
 unfoldable pub fresh : Table → Tick → Start
-fresh t now = record { verdict = verdict t; state = empty (cond (eqb (answer (verdict t) .0) 0) now (tick 0)) }
+fresh t now = record { verdict = verdict t; state = empty (cond (passes t) now (tick 0)) }

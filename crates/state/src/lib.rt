@@ -109,7 +109,7 @@ impl State {
     // A marked deadline is at most so far ahead.
     pub const AHEAD: u32 = 65535;
 
-    // The table's verdict; a state without jobs, waits or mark, at the tick where the table passes.
+    // The table's verdict, and a state without jobs, waits or mark: at the tick that is asked for if the table passes, else at 0.
     pub fn fresh(table: Table, tick: Tick) -> Start
         ensures { λ r. ⌜ r ≡ fresh table tick ⌝ }
     {

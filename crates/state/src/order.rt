@@ -2,7 +2,7 @@
 ghost use mathlib.Core.Path.{_≡_};
 ghost use mathlib.Core.Bool.{cond};
 ghost use Prim.Native.Nat.{min, max};
-ghost use Rattle.state.specs.Order.{place, first, isPending, isStarted, lastHolder};
+ghost use Rattle.state.specs.Order.{place, firstInOrder, isPending, isStarted, lastHolder};
 use crate::Job;
 use crate::State;
 use crate::holders::holds_behind;
@@ -52,9 +52,9 @@ impl State {
 
     // The place of the first in order among the pending jobs, or among the started ones.
     pub fn first(self, started: bool) -> u64
-        ensures { λ r. ⌜ r ≡ first (λ j. cond started (isStarted j) (isPending j)) self ⌝ }
+        ensures { λ r. ⌜ r ≡ firstInOrder (λ j. cond started (isStarted j) (isPending j)) self ⌝ }
     {
-        let mut best: u64 = 1099511627776;
+        let mut best = State::NO_PLACE;
         for k in 0..16 {
             let job = self.jobs[k];
             let at = place(self.tick, job.deadline, k as u8);

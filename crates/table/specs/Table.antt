@@ -31,7 +31,7 @@ I t k = taskAt t k .independent
 abbrev pub S : Table → ℕ → ℕ
 S t k = taskAt t k .synchronization
 
--- "section limit for each of 8 resources, in steps"
+-- "section limit for each of 8 resources, in steps"; 0 for a resource above 7
 abbrev pub limit : Task → ℕ → ℕ
 limit k r = getD (k .limits) r (steps 0) .0
 

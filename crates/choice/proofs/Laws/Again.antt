@@ -4,7 +4,7 @@ use mathlib.Core.Path.{_≡_, refl, sym, ap, ap₂, _∙_}
 use mathlib.Core.Bool.{Bool, true, false, not, _&&_}
 use lib.ListN.{getD, set, List·getD-map}
 use lib.Seq.{map-set-same, set-getD, set-set, getD-set-same}
-use lib.Dec.{ltb, eqb}
+use lib.Dec.{ltb}
 use native.Mathlib.Decide.{decLt}
 use native.Mathlib.Omega.{arith}
 use Rattle.units.proofs.Laws.Folds.{smallest-same, largest-same}
@@ -13,17 +13,17 @@ use Rattle.table.specs.Table.{D, taskAt}
 use Rattle.state.specs.declared.Job.{Job}
 use Rattle.state.specs.declared.State.{State}
 use Rattle.state.specs.declared.Mark.{Mark}
-use Rattle.state.specs.declared.Mark.the-variants.{Absent, At}
+use Rattle.state.specs.declared.Mark.the-variants.{Absent}
 use Rattle.state.specs.declared.Half.the-variants.{Second}
 use Rattle.state.specs.declared.Runner.{Runner}
 use Rattle.state.specs.declared.Runner.the-variants as Runs
 use Rattle.state.specs.State.{noJob, jobAt}
-use Rattle.state.specs.Order.{place, placeAt, positionOf, noPlace, isPending, isStarted, isHolder, first, lastHolder}
+use Rattle.state.specs.Order.{place, placeAt, positionOf, noPlace, isHolder, firstInOrder, lastHolder}
 use Rattle.choice.specs.declared.Turn.{Turn}
-use Rattle.choice.specs.Choice.{top, blocked, runner, shortestAhead, fastest, inherited, markPlace, markAt, rules, idle, turn, begun, begin, choice}
+use Rattle.choice.specs.Choice.{top, blocked, runner, shortestAhead, fastest, inherited, markPlace, markAt, rules, idle, turn, begun, choice}
 use Rattle.choice.proofs.Laws.Ready.{Ready, runs-started}
 use Rattle.choice.proofs.Laws.Rules.{given, alone, rule-1, rule-2, rule-3, rule-4, rule-5, Fits, one, two, three, four, five, fits}
-use Rattle.choice.proofs.Laws.Runner.{runner-blocked, runner-free, turn-runs, turn-idle}
+use Rattle.choice.proofs.Laws.Runner.{runner-free, turn-runs, turn-idle}
 use Rattle.choice.proofs.Laws.Choice.{runner-is, runner-below-16, Stands, stands-1, stands-2}
 
 -- the state with another mark and runner, in mid-tick
@@ -48,7 +48,7 @@ module _ (t : Table) (s : State) (p : ℕ) (m : Mark) (r : Runner) where
   same-pending = same-part (λ j. j .pending) (λ j. refl) s p
 
   same-top : top after ≡ top s
-  unfolding first
+  unfolding firstInOrder
   same-top = smallest-same _ _ _ _ noPlace 16 (λ k l. same-pending k) (λ k l. same-place k)
 
   same-last : (at : ℕ) → lastHolder after at ≡ lastHolder s at
@@ -81,7 +81,7 @@ module _ (t : Table) (s : State) (ready : Ready t s) (some : top s < noPlace) wh
 
   -- the runner does not look at the mark
   unmarked : (l : Mark) (r : Runner) → runner t (record { tick = s .tick; jobs = s .jobs; mark = l; half = Second; runner = r }) ≡ run
-  unfolding runner blocked first
+  unfolding runner blocked firstInOrder
   unmarked l r = refl
 
   started-free : (p : ℕ) → jobAt next p .started ≡ true → blocked t next p ≡ false
@@ -166,7 +166,7 @@ unfolding choice
 idles t s l = rw (turn-idle t s l)
 
 rest-top : (s : State) → top (rest s) ≡ top s
-unfolding first
+unfolding firstInOrder
 rest-top s = refl
 
 pub choice-again : (t : Table) (s : State) → Ready t s → choice t (choice t s .state) .state ≡ choice t s .state

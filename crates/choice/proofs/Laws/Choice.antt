@@ -1,17 +1,16 @@
 -- The laws of the choice: what the crates above use of it, in place of its text. `ready` is what they ask of the state. Assumes nothing.
 use Prim.Native.Nat.{ℕ, _/_, max, _≤_, _<_}
 use mathlib.Core.Path.{_≡_, refl, sym, ap, _∙_}
-use mathlib.Core.Bool.{Bool, true, false, _&&_}
+use mathlib.Core.Bool.{true}
 use mathlib.Core.Logic.{_⊎_, inl, inr}
-use lib.ListN.{length, set}
+use lib.ListN.{set}
 use lib.Seq.{getD-set-same, getD-set-other}
 use lib.Dec.{ltb}
 use native.Mathlib.Nat.{le-trans}
-use native.Mathlib.Decide.{decLt, decLe}
+use native.Mathlib.Decide.{decLt}
 use native.Mathlib.Omega.{arith}
-use borrow.Author.Tests.{ltb-true, lt-ltb}
+use borrow.Author.Tests.{ltb-true}
 use Rattle.units.specs.Clock.{tick, after}
-use Rattle.units.proofs.Laws.Clock.{distance-lt, distance-after}
 use Rattle.units.proofs.Laws.Folds.{both}
 use Rattle.table.specs.declared.Table.{Table}
 use Rattle.table.specs.Table.{D, I, S}
@@ -22,7 +21,7 @@ use Rattle.state.specs.declared.Mark.the-variants.{Absent, At}
 use Rattle.state.specs.declared.Runner.the-variants as Runs
 use Rattle.state.specs.State.{noJob, jobAt}
 use Rattle.state.specs.Order.{place, placeAt, positionOf, noPlace, isHolder, holdsAny, lastHolder}
-use Rattle.state.proofs.Laws.Order.{place-lt, place-distance, place-position, last-bounds, last-found}
+use Rattle.state.proofs.Laws.Order.{place-distance, place-position, last-bounds, last-found}
 use Rattle.choice.specs.declared.Turn.{Turn}
 use Rattle.choice.specs.Choice.{top, runner, rules, idle, turn, begun, choice, markPlace, markAt}
 use Rattle.choice.proofs.Laws.Ready.{Ready, runs-at, runs-position}

@@ -2,27 +2,24 @@
 use Prim.Native.Nat.{ℕ, _^_, _≤_, _<_}
 use mathlib.Core.Path.{_≡_, refl, sym, ap, _∙_}
 use mathlib.Core.Bool.{Bool, true, false, not, _&&_, false≢true}
-use mathlib.Core.Logic.{_⊎_, inl, inr}
 use mathlib.Core.List.{List}
-use lib.ListN.{length, getD}
-use lib.Dec.{leb, eqb}
-use native.Mathlib.Nat.{le-trans}
+use lib.ListN.{length}
+use lib.Dec.{eqb}
 use native.Mathlib.Omega.{arith}
-use borrow.Author.Tests.{not-true, ne-eqb, eqb-false, le-leb, lt-ltb, leb-true}
+use borrow.Author.Tests.{not-true, ne-eqb, eqb-false}
 use Rattle.units.specs.declared.Ticks.{Ticks}
-use Rattle.units.specs.Amounts.{ticks}
 use Rattle.units.specs.Clock.{distance}
 use Rattle.units.specs.Folds.{some}
-use Rattle.units.proofs.Laws.Folds.{Among, both, some-tells, some-holds}
+use Rattle.units.proofs.Laws.Folds.{both, some-tells, some-holds}
 use Rattle.table.specs.declared.Table.{Table}
 use Rattle.table.specs.Table.{D, I, S, ceilings}
 use Rattle.state.specs.declared.State.{State}
 use Rattle.state.specs.declared.Place.{Place}
 use Rattle.state.specs.declared.Held.{Held}
-use Rattle.state.specs.declared.Held.the-variants.{Nothing, In}
+use Rattle.state.specs.declared.Held.the-variants.{Nothing}
 use Rattle.state.specs.declared.Mark.the-variants.{At}
 use Rattle.state.specs.State.{jobAt}
-use Rattle.state.specs.Order.{placeAt, positionOf, noPlace, isPending, isStarted, first}
+use Rattle.state.specs.Order.{placeAt, positionOf, noPlace, isPending, isStarted, firstInOrder}
 use Rattle.state.proofs.Laws.Order.{first-le, first-found, place-lt, place-position}
 use Rattle.choice.specs.Choice.{top, bars, blocked, runner}
 use Rattle.choice.proofs.Laws.Runner.{runner-blocked, runner-free}
@@ -71,13 +68,13 @@ abbrev pub RunsAt : Table → State → ℕ → Type 0
 RunsAt t s k = (k < 16) × (jobAt s k .pending ≡ true) × (runner t s ≡ placeAt s k)
 
 module _ (t : Table) (s : State) (ready : Ready t s) (some : top s < noPlace) where
-  started-there : blocked t s (positionOf (top s)) ≡ true → first isStarted s < noPlace
+  started-there : blocked t s (positionOf (top s)) ≡ true → firstInOrder isStarted s < noPlace
   started-there h =
       let w = blocked-tells t s (positionOf (top s)) h .1 in
       let k = w .0 in
       go k (w .1) (jobAt s k .started) refl
     where
-      go : (k : ℕ) → InWay t s (positionOf (top s)) k → (b : Bool) → jobAt s k .started ≡ b → first isStarted s < noPlace
+      go : (k : ℕ) → InWay t s (positionOf (top s)) k → (b : Bool) → jobAt s k .started ≡ b → firstInOrder isStarted s < noPlace
       go k w true e =
           let l = first-le s isStarted k (w .0) (simp (w .2, e)) in
           omega (arith, l, place-lt (s .tick .0) (jobAt s k .deadline .0) k (omega (arith, w .0)))

@@ -1,13 +1,9 @@
 -- The five rules, one equation each, and the mark that they leave. Assumes nothing.
 use Prim.Native.Nat.{ℕ, _/_, _^_, max, _≤_, _<_}
-use mathlib.Core.Path.{_≡_, refl, sym, ap, _∙_}
-use mathlib.Core.Bool.{true}
-use mathlib.Core.Logic.{_⊎_, inl, inr}
+use mathlib.Core.Path.{_≡_, refl, ap, _∙_}
 use native.Mathlib.Omega.{arith}
 use native.Mathlib.Decide.{decLe, ℕ-discrete}
-use lib.Dec.{eqb}
 use borrow.Author.Tests.{eq-eqb, ne-eqb, lt-ltb, le-ltb, le-leb, lt-leb}
-use Rattle.units.specs.Clock.{distance, after}
 use Rattle.units.proofs.Laws.Clock.{distance-after}
 use Rattle.table.specs.declared.Table.{Table}
 use Rattle.table.specs.Table.{taskAt}
@@ -19,7 +15,7 @@ use Rattle.state.specs.declared.Mode.the-variants.{Independent, Synchronization
 use Rattle.state.specs.declared.Runner.the-variants as Runs
 use Rattle.state.specs.Order.{place, positionOf, noPlace, lastHolder}
 use Rattle.choice.specs.declared.Turn.{Turn}
-use Rattle.choice.specs.Choice.{top, inherited, markPlace, markAt, unblocked, rules}
+use Rattle.choice.specs.Choice.{top, inherited, markPlace, markAt, noHolderBehind, rules}
 
 -- a mark made of a place stands at that place
 pub mark-back : (now k : ℕ) → now < 2 ^ 32 → k < noPlace → markPlace now (markAt now k) ≡ k
@@ -51,26 +47,26 @@ module _ (t : Table) (s : State) (run : ℕ) where
   unfolding rules
   rule-2 h l = simp (eq-eqb _ _ h, lt-ltb _ _ l)
 
-  others : run ≡ top s → last ≤ 0 → rules t s run ≡ unblocked (s .mark) old run (taskAt t (positionOf run))
+  others : run ≡ top s → last ≤ 0 → rules t s run ≡ noHolderBehind (s .mark) old run (taskAt t (positionOf run))
   unfolding rules
   others h l = simp (eq-eqb _ _ h, le-ltb _ _ l)
 
   pub rule-3 : (m : Place) → run ≡ top s → last ≤ 0 → s .mark ≡ At m → old ≤ run → rules t s run ≡ alone
   rule-3 m h l e b = others h l ∙ past (s .mark) e b
     where
-      past : (n : Mark) → n ≡ At m → markPlace now n ≤ run → unblocked n (markPlace now n) run (taskAt t (positionOf run)) ≡ alone
+      past : (n : Mark) → n ≡ At m → markPlace now n ≤ run → noHolderBehind n (markPlace now n) run (taskAt t (positionOf run)) ≡ alone
       past n e b = rw e (simp (le-leb _ _ (rw e at b)))
 
   pub rule-4 : (m : Place) → run ≡ top s → last ≤ 0 → s .mark ≡ At m → run < old → rules t s run ≡ given (s .mark) (taskAt t (positionOf run) .synchronization)
   rule-4 m h l e b = others h l ∙ ahead (s .mark) e b
     where
-      ahead : (n : Mark) → n ≡ At m → run < markPlace now n → unblocked n (markPlace now n) run (taskAt t (positionOf run)) ≡ given n (taskAt t (positionOf run) .synchronization)
+      ahead : (n : Mark) → n ≡ At m → run < markPlace now n → noHolderBehind n (markPlace now n) run (taskAt t (positionOf run)) ≡ given n (taskAt t (positionOf run) .synchronization)
       ahead n e b = rw e (simp (lt-leb _ _ (rw e at b)))
 
   pub rule-5 : run ≡ top s → last ≤ 0 → s .mark ≡ Absent → rules t s run ≡ alone
   rule-5 h l e = others h l ∙ none (s .mark) e
     where
-      none : (n : Mark) → n ≡ Absent → unblocked n (markPlace now n) run (taskAt t (positionOf run)) ≡ alone
+      none : (n : Mark) → n ≡ Absent → noHolderBehind n (markPlace now n) run (taskAt t (positionOf run)) ≡ alone
       none n e = rw e
 
   -- first that fits

@@ -9,7 +9,7 @@ use Rattle.table.specs.declared.Table.{Table}
 use Rattle.state.specs.declared.State.{State}
 use Rattle.state.specs.declared.Runner.{Runner}
 use Rattle.state.specs.declared.Runner.the-variants as Runs
-use Rattle.state.specs.Order.{positionOf, noPlace, first, isPending, isStarted}
+use Rattle.state.specs.Order.{positionOf, noPlace, firstInOrder, isPending, isStarted}
 use Rattle.state.proofs.Laws.Order.{first-position}
 use Rattle.choice.specs.declared.Turn.{Turn}
 use Rattle.choice.specs.Choice.{top, blocked, runner, rules, idle, turn}
@@ -31,7 +31,7 @@ pub nobody : {p : ℕ} → Runs.Nobody ≡ Runs.Job p → ⊥
 nobody e = false≢true (ap someone e)
 
 module _ (t : Table) (s : State) where
-  pub runner-blocked : blocked t s (positionOf (top s)) ≡ true → runner t s ≡ first isStarted s
+  pub runner-blocked : blocked t s (positionOf (top s)) ≡ true → runner t s ≡ firstInOrder isStarted s
   unfolding runner
   runner-blocked h = rw h
 

@@ -1,6 +1,6 @@
 -- The speed of rule 1. Assumes nothing.
 use Prim.Native.Nat.{ℕ, min, max, _≤_, _<_}
-use mathlib.Core.Path.{_≡_, ap₂, _∙_}
+use mathlib.Core.Path.{_≡_, ap₂}
 use mathlib.Core.Bool.{true, _&&_}
 use native.Mathlib.Omega.{arith}
 use lib.Dec.{ltb, leb}

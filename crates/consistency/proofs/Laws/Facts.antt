@@ -21,11 +21,11 @@ use Rattle.state.specs.declared.Half.{Half}
 use Rattle.state.specs.declared.Half.the-variants.{First, Second}
 use Rattle.state.specs.declared.Runner.{Runner}
 use Rattle.state.specs.declared.Runner.the-variants as Runs
-use Rattle.state.specs.State.{jobAt, noJob, empty}
+use Rattle.state.specs.State.{jobAt, noJob, empty, passes}
 use Rattle.state.specs.Order.{holdsAny}
 use Rattle.choice.specs.Choice.{turn}
 use Rattle.choice.proofs.Laws.Runner.{runner-below}
-use Rattle.consistency.specs.Consistency.{passes, placeFits, markFits, sameRunner, sameMark, hasBegun, unchanged, halfFits, consistent}
+use Rattle.consistency.specs.Consistency.{positionFits, markFits, sameRunner, sameMark, hasBegun, unchanged, halfFits, consistent}
 use Rattle.consistency.proofs.Laws.Jobs.{JobFits}
 use Rattle.consistency.proofs.Laws.Held.{Once}
 use Rattle.consistency.proofs.Laws.Places.{used-tells, past-tells, place-holds, places-tells, places-hold}
@@ -147,7 +147,7 @@ module _ (t : Table) (s : State) where
   pub consistent-holds : Consistent t s → consistent t s ≡ true
   unfolding consistent passes
   consistent-holds h =
-      let places = all-holds (placeFits t s) 16 (λ k b. place-holds t s k (h .jobs k) (λ l. h .past k l b)) in
+      let places = all-holds (positionFits t s) 16 (λ k b. place-holds t s k (h .jobs k) (λ l. h .past k l b)) in
       simp (
         eq-eqb _ _ (h .passes),
         places-hold t s places (h .once),

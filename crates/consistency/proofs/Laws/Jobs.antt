@@ -19,7 +19,7 @@ use Rattle.state.specs.declared.Held.{Held}
 use Rattle.state.specs.declared.Held.the-variants.{Nothing, In}
 use Rattle.state.specs.State.{noJob}
 use Rattle.state.specs.Order.{holdsAny}
-use Rattle.consistency.specs.Consistency.{absentFits, pendingFits, startedFits, heldFits, waitFits, jobFits, unused}
+use Rattle.consistency.specs.Consistency.{notPendingFits, pendingFits, startedFits, heldFits, waitFits, jobFits, unused}
 use Rattle.consistency.proofs.Laws.Tests.{cond-yes, cond-no}
 
 -- ---- the facts
@@ -30,7 +30,7 @@ pub record PendingFits (task : Task) (now : ℕ) (j : Job) : Type 0 where
   pub near : distance now (j .deadline .0) ≤ task .deadline .0
   pub wait : j .wait .0 ≡ distance now (j .deadline .0) + (task .period .0 - task .deadline .0)
 
-pub record AbsentFits (j : Job) : Type 0 where
+pub record NotPendingFits (j : Job) : Type 0 where
   pub started : j .started ≡ false
   pub used : j .used .0 ≡ 0
   pub held : j .held ≡ Nothing
@@ -49,7 +49,7 @@ pub record JobFits (task : Task) (now : ℕ) (j : Job) : Type 0 where
   pub unstarted : j .started ≡ false → UnstartedFits j
   pub section : (x : Section) → j .held ≡ In x → SectionFits task x
   pub pending : j .pending ≡ true → PendingFits task now j
-  pub absent : j .pending ≡ false → AbsentFits j
+  pub absent : j .pending ≡ false → NotPendingFits j
 
 -- ---- nothing is held
 
@@ -74,16 +74,16 @@ pub pending-holds : (task : Task) (now : ℕ) (j : Job) → PendingFits task now
 unfolding pendingFits
 pending-holds task now j h = simp (lt-ltb _ _ (h .used), le-leb _ _ (h .ahead), le-leb _ _ (h .near), eq-eqb _ _ (h .wait))
 
-pub absent-tells : (j : Job) → absentFits j ≡ true → AbsentFits j
-unfolding absentFits
+pub absent-tells : (j : Job) → notPendingFits j ≡ true → NotPendingFits j
+unfolding notPendingFits
 absent-tells j h =
     let s = both _ _ h in
     let u = both _ _ (s .1) in
     let n = both _ _ (u .1) in
     record { started = not-true _ (s .0); used = eqb-true _ _ (u .0); held = holds-nothing _ (n .0); deadline = eqb-true _ _ (n .1) }
 
-pub absent-holds : (j : Job) → AbsentFits j → absentFits j ≡ true
-unfolding absentFits
+pub absent-holds : (j : Job) → NotPendingFits j → notPendingFits j ≡ true
+unfolding notPendingFits
 absent-holds j h = simp (h .started, eq-eqb _ _ (h .used), nothing-held (h .held), eq-eqb _ _ (h .deadline))
 
 other : (a b : Bool) → (a || b) ≡ true → a ≡ false → b ≡ true
@@ -127,7 +127,7 @@ pub job-holds : (task : Task) (now : ℕ) (j : Job) → JobFits task now j → j
 unfolding jobFits waitFits
 job-holds task now j h = simp (le-leb _ _ (h .wait), started-holds j (h .unstarted), section-holds task (j .held) (h .section)) (go (j .pending) refl)
   where
-    go : (b : Bool) → j .pending ≡ b → cond (j .pending) (pendingFits task now j) (absentFits j) ≡ true
+    go : (b : Bool) → j .pending ≡ b → cond (j .pending) (pendingFits task now j) (notPendingFits j) ≡ true
     go true e = cond-yes _ _ e ∙ pending-holds task now j (h .pending e)
     go false e = cond-no _ _ e ∙ absent-holds j (h .absent e)
 
@@ -150,7 +150,7 @@ unused-tells j h =
     ∙ ap (λ (w : ℕ). job false false 0 0 Nothing w) (eqb-true _ _ (w .0))
 
 pub unused-holds : {j : Job} → j ≡ noJob → unused j ≡ true
-unfolding unused absentFits
+unfolding unused notPendingFits
 unused-holds e = ap unused e
 
 -- ---- a task has 8 limits: what it takes is one of 8

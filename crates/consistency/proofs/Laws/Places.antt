@@ -20,7 +20,7 @@ use Rattle.state.specs.declared.State.{State}
 use Rattle.state.specs.State.{jobAt, noJob}
 use Rattle.state.specs.Order.{holdsAny, withHeld}
 use Rattle.state.proofs.Laws.Holders.{heldBelow, held-next}
-use Rattle.consistency.specs.Consistency.{placeFits, alone, isTaken, placesFit}
+use Rattle.consistency.specs.Consistency.{positionFits, alone, isTaken, positionsFit}
 use Rattle.consistency.proofs.Laws.Tests.{cond-yes, cond-no}
 use Rattle.consistency.proofs.Laws.Jobs.{JobFits, job-tells, job-holds, unused-tells, unused-holds, takes-one-of-8}
 use Rattle.consistency.proofs.Laws.Held.{Once, once-none, once-next, once-tells, once-holds, taken-tells, free-tells}
@@ -30,24 +30,24 @@ module _ (t : Table) (s : State) where
   held k = jobAt s k .held
 
   module _ (k : ℕ) where
-    pub used-tells : placeFits t s k ≡ true → k < t .count → JobFits (taskAt t k) (s .tick .0) (jobAt s k)
-    unfolding placeFits
+    pub used-tells : positionFits t s k ≡ true → k < t .count → JobFits (taskAt t k) (s .tick .0) (jobAt s k)
+    unfolding positionFits
     used-tells h l = job-tells _ _ _ (sym (cond-yes _ _ (lt-ltb _ _ l)) ∙ h)
 
-    pub past-tells : placeFits t s k ≡ true → t .count ≤ k → jobAt s k ≡ noJob
-    unfolding placeFits
+    pub past-tells : positionFits t s k ≡ true → t .count ≤ k → jobAt s k ≡ noJob
+    unfolding positionFits
     past-tells h l = unused-tells _ (sym (cond-no _ _ (le-ltb _ _ l)) ∙ h)
 
-    pub place-holds : (k < t .count → JobFits (taskAt t k) (s .tick .0) (jobAt s k)) → (t .count ≤ k → jobAt s k ≡ noJob) → placeFits t s k ≡ true
-    unfolding placeFits
+    pub place-holds : (k < t .count → JobFits (taskAt t k) (s .tick .0) (jobAt s k)) → (t .count ≤ k → jobAt s k ≡ noJob) → positionFits t s k ≡ true
+    unfolding positionFits
     place-holds f g = go (decLt k (t .count))
       where
-        go : Dec (k < t .count) → placeFits t s k ≡ true
+        go : Dec (k < t .count) → positionFits t s k ≡ true
         go (yes l) = cond-yes _ _ (lt-ltb _ _ l) ∙ job-holds _ _ _ (f l)
         go (no q) = let l : t .count ≤ k = omega arith in cond-no _ _ (le-ltb _ _ l) ∙ unused-holds (g l)
 
     -- a resource that fits is one of 8
-    one-of-8 : length (taskAt t k .limits) ≡ 8 → placeFits t s k ≡ true → (y : Section) → held k ≡ In y → y .resource < 8
+    one-of-8 : length (taskAt t k .limits) ≡ 8 → positionFits t s k ≡ true → (y : Section) → held k ≡ In y → y .resource < 8
     one-of-8 e h y q = go (decLt k (t .count))
       where
         go : Dec (k < t .count) → y .resource < 8
@@ -56,12 +56,12 @@ module _ (t : Table) (s : State) where
             let l : t .count ≤ k = omega arith in
             absurd (false≢true (ap holdsAny (sym (ap (λ (j : Job). j .held) (past-tells h l)) ∙ q)))
 
-  pub places-tells : placesFit t s ≡ true → (all (placeFits t s) 16 ≡ true) × Once s 16
-  unfolding placesFit
-  places-tells h = let w = both (all (placeFits t s) 16) (all (alone s) 16) h in (w .0, once-tells s (w .1))
+  pub places-tells : positionsFit t s ≡ true → (all (positionFits t s) 16 ≡ true) × Once s 16
+  unfolding positionsFit
+  places-tells h = let w = both (all (positionFits t s) 16) (all (alone s) 16) h in (w .0, once-tells s (w .1))
 
-  pub places-hold : all (placeFits t s) 16 ≡ true → Once s 16 → placesFit t s ≡ true
-  unfolding placesFit
+  pub places-hold : all (positionFits t s) 16 ≡ true → Once s 16 → positionsFit t s ≡ true
+  unfolding positionsFit
   places-hold h o = simp (h, once-holds s o)
 
   -- ---- the walk: the places below n fit, no resource is held twice there, and the set has those that are held
@@ -69,7 +69,7 @@ module _ (t : Table) (s : State) where
   pub record Walked (m n : ℕ) : Type 0 where
     pub within : n ≤ 16
     pub set : m ≡ heldBelow s n
-    pub fits : all (placeFits t s) n ≡ true
+    pub fits : all (positionFits t s) n ≡ true
     pub once : Once s n
 
   pub walk-none : Walked 0 0
@@ -77,25 +77,25 @@ module _ (t : Table) (s : State) where
   walk-none = record { within = omega arith; set = refl; fits = refl; once = once-none s }
 
   module _ {n : ℕ} (l : n < 16) where
-    pub walk-unfit : placeFits t s n ≡ false → false ≡ placesFit t s
+    pub walk-unfit : positionFits t s n ≡ false → false ≡ positionsFit t s
     walk-unfit h = no-test _ (λ e. false≢true (sym h ∙ all-tells _ 16 (places-tells e .0) n l))
 
     module _ {m : ℕ} (w : Walked m n) where
-      pub walk-taken : isTaken m (held n) ≡ true → false ≡ placesFit t s
+      pub walk-taken : isTaken m (held n) ≡ true → false ≡ positionsFit t s
       walk-taken h = no-test _ (λ e. go (held n) refl (sym (ap (λ (m : ℕ). isTaken m (held n)) (w .set)) ∙ h) (places-tells e .1))
         where
           go : (y : Held) → held n ≡ y → isTaken (heldBelow s n) y ≡ true → Once s 16 → ⊥
           go Nothing q h o = false≢true h
           go (In y) q h o = let v = taken-tells s n y h in omega (arith, v .2, o (v .0) n (v .1) y (omega (arith, v .2)) l (v .3) q (v .4))
 
-      pub walk-next : {m′ : ℕ} → length (taskAt t n .limits) ≡ 8 → placeFits t s n ≡ true → isTaken m (held n) ≡ false → m′ ≡ withHeld m (held n) → Walked m′ (n + 1)
+      pub walk-next : {m′ : ℕ} → length (taskAt t n .limits) ≡ 8 → positionFits t s n ≡ true → isTaken m (held n) ≡ false → m′ ≡ withHeld m (held n) → Walked m′ (n + 1)
       walk-next e f h j = record {
         within = omega arith;
         set = j ∙ ap (λ (m : ℕ). withHeld m (held n)) (w .set) ∙ held-next s n (held n) refl;
-        fits = sym (all-next (placeFits t s) n (sym (w .fits)) (sym f));
+        fits = sym (all-next (positionFits t s) n (sym (w .fits)) (sym f));
         once = once-next s n (w .once) (λ i x y b p q.
             free-tells s n y (omega (arith, one-of-8 n e f y q)) (ap (isTaken (heldBelow s n)) (sym q) ∙ sym (ap (λ (m : ℕ). isTaken m (held n)) (w .set)) ∙ h) i x b p);
       }
 
-  pub walk-end : {m n : ℕ} → Walked m n → 16 ≤ n → true ≡ placesFit t s
+  pub walk-end : {m n : ℕ} → Walked m n → 16 ≤ n → true ≡ positionsFit t s
   walk-end {m} {n} w l = let e : n ≡ 16 = omega arith in sym (places-hold (rw e at (w .fits)) (rw e at (w .once)))

@@ -1,19 +1,25 @@
 -- What each call answers, case by case, in the order of its numbers. Assumes nothing.
 use Prim.Native.Nat.{ℕ, _≤_, _<_}
-use mathlib.Core.Path.{_≡_}
-use mathlib.Core.Bool.{true, false}
+use mathlib.Core.Path.{_≡_, refl}
+use mathlib.Core.Bool.{Bool, true, false, not, cond}
+use lib.ListN.{length}
+use lib.Seq.{getD-set-same, getD-set-other}
+use lib.Dec.{ltb, leb}
 use borrow.Author.Tests.{lt-ltb, le-ltb, lt-leb, le-leb}
 use Rattle.table.specs.declared.Table.{Table}
+use Rattle.table.specs.Table.{taskAt}
 use Rattle.admission.proofs.Laws.Admitted.{admitted}
 use Rattle.state.specs.declared.State.{State}
+use Rattle.state.specs.declared.Answer.{Answer}
 use Rattle.state.specs.declared.Report.{Report}
-use Rattle.state.specs.State.{jobAt}
+use Rattle.state.specs.State.{noJob, jobAt}
 use Rattle.state.specs.Answers.{bare}
 use Rattle.choice.specs.Choice.{choice}
 use Rattle.report.specs.Report as AtReport
+use Rattle.report.proofs.Laws.Jobs as ReportJobs
 use Rattle.consistency.specs.Consistency.{consistent}
 use Rattle.consistency.proofs.Laws.Facts.{consistent-tells}
-use Rattle.machine.specs.Machine.{midTick, releasedAt, release, chosen, choose, report}
+use Rattle.machine.specs.Machine.{midTick, released, releasedAt, release, chosen, choose, report}
 
 -- a consistent state has a table of at most 16 tasks
 pub few : (t : Table) (s : State) → consistent t s ≡ true → t .count ≤ 16
@@ -65,3 +71,51 @@ module _ (t : Table) (s : State) where
       pub release-taken : (p : ℕ) → p < t .count → jobAt s p .wait .0 ≤ 0 → release t s p ≡ bare 0 (releasedAt t s p)
       unfolding release
       release-taken p l w = simp (good, between, lt-leb _ _ l, le-ltb _ _ w)
+
+-- what a release that is taken does to each job
+module _ (t : Table) (s : State) (p : ℕ) where
+  pub released-job : p < length (s .jobs) → jobAt (releasedAt t s p) p ≡ released (taskAt t p) (s .tick .0)
+  released-job l = getD-set-same (s .jobs) p (released (taskAt t p) (s .tick .0)) noJob l
+
+  pub released-others : (k : ℕ) → (k ≡ p → ⊥) → jobAt (releasedAt t s p) k ≡ jobAt s k
+  released-others k h = getD-set-other (s .jobs) p k (released (taskAt t p) (s .tick .0)) noJob h
+
+-- a call that is refused returns the state as it went in, and no job
+module _ (t : Table) (s : State) where
+  pub release-refused : (p : ℕ) → (release t s p .number ≡ 0 → ⊥) → release t s p ≡ bare (release t s p .number) s
+  unfolding release
+  release-refused p h = go (consistent t s) (midTick (s .half)) (leb (t .count) p) (ltb 0 (jobAt s p .wait .0)) h
+    where
+      all : Bool → Bool → Bool → Bool → Answer
+      all a b c d = cond (not a) (bare 9 s) (cond b (bare 11 s) (cond c (bare 10 s) (cond d (bare 12 s) (bare 0 (releasedAt t s p)))))
+
+      go : (a b c d : Bool) → (all a b c d .number ≡ 0 → ⊥) → all a b c d ≡ bare (all a b c d .number) s
+      go false b c d h = refl
+      go true true c d h = refl
+      go true false true d h = refl
+      go true false false true h = refl
+      go true false false false h = absurd (h refl)
+
+  pub choose-refused : (choose t s .number ≡ 0 → ⊥) → choose t s ≡ bare (choose t s .number) s
+  unfolding choose
+  choose-refused h = go (consistent t s) (midTick (s .half)) h
+    where
+      all : Bool → Bool → Answer
+      all a b = cond (not a) (bare 9 s) (cond b (bare 11 s) (chosen (choice t s)))
+
+      go : (a b : Bool) → (all a b .number ≡ 0 → ⊥) → all a b ≡ bare (all a b .number) s
+      go false b h = refl
+      go true true h = refl
+      go true false h = absurd (h refl)
+
+  pub report-refused : (said : Report) → (report t s said .number ≡ 0 → ⊥) → report t s said ≡ bare (report t s said .number) s
+  unfolding report
+  report-refused said h = go (consistent t s) (midTick (s .half)) h
+    where
+      all : Bool → Bool → Answer
+      all a b = cond (not a) (bare 9 s) (cond (not b) (bare 11 s) (AtReport.report t s said))
+
+      go : (a b : Bool) → (all a b .number ≡ 0 → ⊥) → all a b ≡ bare (all a b .number) s
+      go false b h = refl
+      go true false h = refl
+      go true true h = ReportJobs.report-refused t s said h

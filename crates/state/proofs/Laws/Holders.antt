@@ -1,10 +1,10 @@
 -- The set of the resources that are held. Assumes nothing.
-use Prim.Native.Nat.{ℕ, _+_, _<_}
-use mathlib.Core.Path.{_≡_, refl, sym, ap, ap₂, _∙_}
+use Prim.Native.Nat.{ℕ, _+_}
+use mathlib.Core.Path.{_≡_, refl, ap, _∙_}
 use mathlib.Core.Bool.{Bool, true, false, cond, _||_}
 use lib.Dec.{eqb}
 use Rattle.units.specs.Folds.{some}
-use Rattle.units.specs.Sets.{set, has, with}
+use Rattle.units.specs.Sets.{set, with}
 use Rattle.units.proofs.Laws.Folds.{some-next}
 use Rattle.units.proofs.Laws.Sets.{set-same, has-set}
 use Rattle.state.specs.declared.Held.{Held}

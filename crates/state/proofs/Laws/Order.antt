@@ -1,6 +1,6 @@
 -- The order by places is document 01's. Assumes nothing.
-use Prim.Native.Nat.{ℕ, _/_, _^_, _≤_, _<_}
-use mathlib.Core.Path.{_≡_, ap, _∙_}
+use Prim.Native.Nat.{ℕ, _/_, _≤_, _<_}
+use mathlib.Core.Path.{_≡_}
 use mathlib.Core.Bool.{Bool, true, _&&_}
 use mathlib.Core.Logic.{⊎-elim}
 use native.Mathlib.Nat.{eq-or-lt-of-le}
@@ -13,7 +13,7 @@ use Rattle.units.proofs.Laws.Folds.{Among, smallest-le, smallest-bound, smalles
 use Rattle.state.specs.declared.Job.{Job}
 use Rattle.state.specs.declared.State.{State}
 use Rattle.state.specs.State.{jobAt}
-use Rattle.state.specs.Order.{place, placeAt, positionOf, noPlace, isHolder, first, lastHolder}
+use Rattle.state.specs.Order.{place, placeAt, positionOf, noPlace, isHolder, firstInOrder, lastHolder}
 
 module _ (now : ℕ) where
   -- "nearer deadline first"
@@ -41,19 +41,19 @@ module _ (now : ℕ) where
 
 module _ (s : State) where
   -- the first job in order that has p is there, and no other such job is before it
-  pub first-le : (p : Job → Bool) (k : ℕ) → k < 16 → p (jobAt s k) ≡ true → first p s ≤ placeAt s k
-  unfolding first
+  pub first-le : (p : Job → Bool) (k : ℕ) → k < 16 → p (jobAt s k) ≡ true → firstInOrder p s ≤ placeAt s k
+  unfolding firstInOrder
   first-le p k l h = smallest-le (λ k. p (jobAt s k)) (placeAt s) noPlace 16 k l h
 
-  pub first-found : (p : Job → Bool) → first p s < noPlace → Among (λ k. p (jobAt s k)) (placeAt s) 16 (first p s)
-  unfolding first
+  pub first-found : (p : Job → Bool) → firstInOrder p s < noPlace → Among (λ k. p (jobAt s k)) (placeAt s) 16 (firstInOrder p s)
+  unfolding firstInOrder
   first-found p l = smallest-found (λ k. p (jobAt s k)) (placeAt s) noPlace 16 l
 
-  pub first-bound : (p : Job → Bool) → first p s ≤ noPlace
-  unfolding first
+  pub first-bound : (p : Job → Bool) → firstInOrder p s ≤ noPlace
+  unfolding firstInOrder
   first-bound p = smallest-bound (λ k. p (jobAt s k)) (placeAt s) noPlace 16
 
-  pub first-position : (p : Job → Bool) → positionOf (first p s) < 16
+  pub first-position : (p : Job → Bool) → positionOf (firstInOrder p s) < 16
   first-position p = ⊎-elim (λ e. omega arith) (λ l. let w = first-found p l in omega (arith, w .1, w .3, place-position (s .tick .0) (jobAt s (w .0) .deadline .0) (w .0) (omega (arith, w .1)))) (eq-or-lt-of-le (first-bound p))
 
   -- so with the last holder behind a place

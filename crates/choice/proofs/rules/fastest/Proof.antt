@@ -1,6 +1,6 @@
 use borrow.Author.Needs.{needs}
 use Prim.Native.Nat.{_≤_, _-_}
-use mathlib.Core.Path.{_≡_, refl, _∙_, ap}
+use mathlib.Core.Path.{_≡_, refl, _∙_}
 use mathlib.Core.Bool.{_&&_}
 use native.Mathlib.Omega.{arith}
 use lib.Dec.{ltb, leb}

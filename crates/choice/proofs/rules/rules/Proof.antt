@@ -69,8 +69,8 @@ returns-2 c =
       c .before .before .before .before .before .position .ensures,
     )
 
-unblocked-requires : tie.Need-unblocked-requires
-unblocked-requires c κs = search needs
+no-holder-behind-requires : tie.Need-no-holder-behind-requires
+no-holder-behind-requires c κs = search needs
 
 returns-3 : tie.Need-returns-3
 unfolding rules
@@ -81,7 +81,7 @@ returns-3 c =
       ← c .before .before .before .before .before .before .before .pre .0,
       eq-eqb _ _ (c .before .before .if1 .left),
       le-ltb _ _ (c .before .if2 .left),
-      c .unblocked .ensures,
+      c .no-holder-behind .ensures,
       c .before .before .before .before .position .ensures,
     )
 
@@ -103,5 +103,5 @@ rules-spec =
     later-requires-3
     mark-at-requires-2
     returns-2
-    unblocked-requires
+    no-holder-behind-requires
     returns-3)

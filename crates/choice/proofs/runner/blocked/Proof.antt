@@ -1,12 +1,12 @@
 use borrow.Author.Needs.{needs}
 use Prim.Native.Nat.{_≤_, _-_}
-use mathlib.Core.Path.{_≡_, refl, sym, _∙_, ap}
-use mathlib.Core.Bool.{true, false, not, _&&_}
+use mathlib.Core.Path.{_≡_, refl, sym, _∙_}
+use mathlib.Core.Bool.{false, not, _&&_}
 use native.Mathlib.Omega.{arith}
 use lib.Dec.{eqb}
 use Rattle.units.specs.Folds.{over, some}
 use Rattle.units.proofs.Laws.Folds.{some-next, some-holds}
-use Rattle.table.specs.Table.{D, ceilings}
+use Rattle.table.specs.Table.{ceilings}
 use Rattle.state.specs.State.{jobAt}
 use Rattle.choice.specs.Choice.{bars, blocked}
 use Rattle.choice.proofs.runner.blocked.Statement.{statement}

@@ -31,12 +31,12 @@ returns-4 : tie.Need-returns-4
 unfolding jobFits waitFits
 returns-4 c = rw (le-leb _ _ (c .before .before .before .before .before .before .if1 .left), passed (c .before .before .before .before .before .started-fits .ensures) (c .before .before .before .before .if2 .left), passed (c .before .before .before .held-fits .ensures) (c .before .before .if3 .left)) (c .pending-fits .ensures ∙ sym (cond-yes _ _ (c .before .if4 .taken)))
 
-absent-fits-requires : tie.Need-absent-fits-requires
-absent-fits-requires c κs = search needs
+not-pending-fits-requires : tie.Need-not-pending-fits-requires
+not-pending-fits-requires c κs = search needs
 
 returns-5 : tie.Need-returns-5
 unfolding jobFits waitFits
-returns-5 c = rw (le-leb _ _ (c .before .before .before .before .before .before .if1 .left), passed (c .before .before .before .before .before .started-fits .ensures) (c .before .before .before .before .if2 .left), passed (c .before .before .before .held-fits .ensures) (c .before .before .if3 .left)) (c .absent-fits .ensures ∙ sym (cond-no _ _ (c .before .if4 .left)))
+returns-5 c = rw (le-leb _ _ (c .before .before .before .before .before .before .if1 .left), passed (c .before .before .before .before .before .started-fits .ensures) (c .before .before .before .before .if2 .left), passed (c .before .before .before .held-fits .ensures) (c .before .before .if3 .left)) (c .not-pending-fits .ensures ∙ sym (cond-no _ _ (c .before .if4 .left)))
 
 pub job-fits-spec : {M : Type 1} → statement M
 job-fits-spec =
@@ -49,5 +49,5 @@ job-fits-spec =
     returns-3
     pending-fits-requires
     returns-4
-    absent-fits-requires
+    not-pending-fits-requires
     returns-5)

@@ -1,3 +1,5 @@
+use mathlib.Core.Path.{ap}
+use Rattle.units.specs.declared.Steps.{Steps}
 use borrow.Author.Needs.{needs}
 use Rattle.report.proofs.endings.held_on.Statement.{statement}
 use Rattle.report.proofs.endings.held_on.Tie as tie
@@ -21,7 +23,7 @@ returns : tie.Need-returns
 returns c = search needs
 
 returns-2 : tie.Need-returns-2
-returns-2 c = rw (c .before .before .before .before .held .given .1, c .risen .ensures, c .before .given .ensures, c .before .before .limit .ensures)
+returns-2 c = rw (c .before .before .before .before .held .given .1, c .risen .ensures, c .before .given .ensures, ← ap (λ (x : Steps). x .0) (c .before .before .limit .ensures))
 
 pub held-on-spec : {M : Type 1} → statement M
 held-on-spec =

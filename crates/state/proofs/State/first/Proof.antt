@@ -1,11 +1,11 @@
 use Prim.Native.Nat.{_≤_, _-_}
-use mathlib.Core.Path.{_≡_, refl, sym, _∙_, ap}
+use mathlib.Core.Path.{_≡_, refl, _∙_, ap}
 use native.Mathlib.Omega.{arith}
 use mathlib.Core.Bool.{cond}
 use Rattle.units.specs.Folds.{over, smallest}
 use Rattle.units.proofs.Laws.Folds.{smallest-next}
 use Rattle.state.specs.State.{jobAt}
-use Rattle.state.specs.Order.{first, placeAt, noPlace, isStarted, isPending}
+use Rattle.state.specs.Order.{firstInOrder, placeAt, noPlace, isStarted, isPending}
 use borrow.Author.Needs.{needs}
 use Rattle.state.proofs.State.first.Statement.{statement}
 use Rattle.state.proofs.State.first.Tie as tie
@@ -17,7 +17,7 @@ abbrev μ-loop : tie.MeasureT-loop
 μ-loop started self best₀ k₀ best k = 16 - k
 
 loop-holds : tie.Need-loop-holds Inv-loop μ-loop
-unfolding first smallest over
+unfolding firstInOrder smallest over
 loop-holds c = (omega arith, refl)
 
 mul-job : tie.Need-mul-job Inv-loop μ-loop
@@ -48,7 +48,7 @@ loop-again : tie.Need-loop-again Inv-loop μ-loop
 loop-again c = (omega arith, smallest-next _ _ _ _ (c .before .before .before .before .before .before .loop .inv .1) (c .nearer .ensures ∙ rw (c .before .wanted .ensures, c .before .before .place .ensures)))
 
 returns : tie.Need-returns Inv-loop μ-loop
-unfolding first
+unfolding firstInOrder
 returns c = c .before .loop .inv .1 ∙ ap (smallest _ _ _) (omega arith)
 
 pub first-spec : {M : Type 1} → statement M

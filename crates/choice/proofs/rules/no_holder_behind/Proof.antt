@@ -1,7 +1,7 @@
 use borrow.Author.Tests.{le-leb, lt-leb}
 use borrow.Author.Needs.{needs}
-use Rattle.choice.proofs.rules.unblocked.Statement.{statement}
-use Rattle.choice.proofs.rules.unblocked.Tie as tie
+use Rattle.choice.proofs.rules.no_holder_behind.Statement.{statement}
+use Rattle.choice.proofs.rules.no_holder_behind.Tie as tie
 
 position-requires : tie.Need-position-requires
 position-requires c κs = search needs
@@ -21,6 +21,6 @@ returns-2 c = rw (c .before .before .position .ensures, c .enum-told .given .1)
 returns-3 : tie.Need-returns-3
 returns-3 c = rw (c .before .before .before .position .ensures, c .before .enum-told2 .given .1, lt-leb _ _ (c .if1 .left))
 
-pub unblocked-spec : {M : Type 1} → statement M
-unblocked-spec =
+pub no-holder-behind-spec : {M : Type 1} → statement M
+no-holder-behind-spec =
     tie.close (tie.spec position-requires enum-told enum-told-2 returns returns-2 returns-3)

@@ -1,12 +1,12 @@
 use Prim.Native.Nat.{_-_}
 use mathlib.Core.Path.{sym, _∙_}
 use native.Mathlib.Omega.{arith}
-use Rattle.consistency.specs.Consistency.{placeFits}
+use Rattle.consistency.specs.Consistency.{positionFits}
 use Rattle.consistency.proofs.Laws.Tests.{passed, failed}
 use Rattle.consistency.proofs.Laws.Places.{Walked, walk-none, walk-unfit, walk-taken, walk-next, walk-end}
 use borrow.Author.Needs.{needs}
-use Rattle.consistency.proofs.jobs.places_fit.Statement.{statement}
-use Rattle.consistency.proofs.jobs.places_fit.Tie as tie
+use Rattle.consistency.proofs.jobs.positions_fit.Statement.{statement}
+use Rattle.consistency.proofs.jobs.positions_fit.Tie as tie
 
 abbrev Inv-loop : tie.InvT-loop
 Inv-loop table state found₀ k₀ found k = Walked table state found k
@@ -29,12 +29,12 @@ mul-job c = search needs
 element-copy-out-job : tie.Need-element-copy-out-job Inv-loop μ-loop
 element-copy-out-job c = search needs
 
-place-fits-requires : tie.Need-place-fits-requires Inv-loop μ-loop
-place-fits-requires c κs = search needs
+position-fits-requires : tie.Need-position-fits-requires Inv-loop μ-loop
+position-fits-requires c κs = search needs
 
 returns : tie.Need-returns Inv-loop μ-loop
-unfolding placeFits
-returns c = walk-unfit _ _ (c .before .before .before .before .before .loop-test .taken) (failed (c .before .place-fits .ensures .0) (c .if1 .taken))
+unfolding positionFits
+returns c = walk-unfit _ _ (c .before .before .before .before .before .loop-test .taken) (failed (c .before .position-fits .ensures .0) (c .if1 .taken))
 
 is-taken-requires : tie.Need-is-taken-requires Inv-loop μ-loop
 is-taken-requires c κs = search needs
@@ -52,14 +52,14 @@ loop-less : tie.Need-loop-less Inv-loop μ-loop
 loop-less c = search needs
 
 loop-again : tie.Need-loop-again Inv-loop μ-loop
-unfolding placeFits
-loop-again c = let l = c .before .before .before .before .before .before .before .before .before .loop in let f = c .before .before .before .before .place-fits .ensures in walk-next _ _ (c .before .before .before .before .before .before .before .before .loop-test .taken) (l .inv) (f .1) (passed (f .0) (c .before .before .before .if1 .left)) (sym (c .before .before .is-taken .ensures) ∙ c .before .if2 .left) (c .join .ensures)
+unfolding positionFits
+loop-again c = let l = c .before .before .before .before .before .before .before .before .before .loop in let f = c .before .before .before .before .position-fits .ensures in walk-next _ _ (c .before .before .before .before .before .before .before .before .loop-test .taken) (l .inv) (f .1) (passed (f .0) (c .before .before .before .if1 .left)) (sym (c .before .before .is-taken .ensures) ∙ c .before .if2 .left) (c .join .ensures)
 
 returns-3 : tie.Need-returns-3 Inv-loop μ-loop
 returns-3 c = walk-end _ _ (c .before .loop .inv) (omega arith)
 
-pub places-fit-spec : {M : Type 1} → statement M
-places-fit-spec =
+pub positions-fit-spec : {M : Type 1} → statement M
+positions-fit-spec =
     tie.close
     (tie.spec
     Inv-loop
@@ -69,7 +69,7 @@ places-fit-spec =
     element-copy-out-task
     mul-job
     element-copy-out-job
-    place-fits-requires
+    position-fits-requires
     returns
     is-taken-requires
     returns-2
