@@ -61,7 +61,7 @@ fn shortest_ahead(table: Table, state: State, run: u64) -> Ticks
     ensures { λ r. ⌜ r ≡ ticks (shortestAhead table state run) ⌝ }
 {
     let mut best = Ticks(65535);
-    for k in 0..16 {
+    for k in 0..State::TASKS {
         let job = state.jobs[k];
         let task = table.tasks[k];
         let at = order::place(state.tick, job.deadline, k as u8);
@@ -76,7 +76,7 @@ fn fastest(table: Table, low: Ticks, high: Ticks) -> u8
     ensures { λ r. ⌜ r ≡ fastest table (low .0) (high .0) ⌝ }
 {
     let mut best: u8 = 0;
-    for k in 0..16 {
+    for k in 0..State::TASKS {
         let task = table.tasks[k];
         best = faster(
             best,

@@ -25,7 +25,7 @@ fn ceiling(ceilings: [Ticks; 8], resource: u8) -> Ticks
     ensures { λ r. ⌜ r ≡ getD ceilings resource (ticks 0) ⌝ }
 {
     let r = resource as usize;
-    if r < 8 {
+    if r < State::RESOURCES {
         return ceilings[r];
     }
     Ticks(0)
@@ -53,7 +53,7 @@ fn blocked(table: Table, state: State, top: usize) -> bool
     }
     let task = table.tasks[top];
     let ceilings = table.ceilings();
-    for k in 0..16 {
+    for k in 0..State::TASKS {
         let other = state.jobs[k];
         if in_way(ceilings, other, task.deadline, k != top) {
             return true;
@@ -82,7 +82,7 @@ pub(crate) fn begin(state: State, runner: Runner) -> [Job; 16]
         Runner::Nobody => jobs,
         Runner::Job(p) => {
             let k = p as usize;
-            if k < 16 {
+            if k < State::TASKS {
                 let mut job = jobs[k];
                 job.started = true;
                 jobs[k] = job;

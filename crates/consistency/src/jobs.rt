@@ -103,7 +103,7 @@ pub(crate) fn positions_fit(table: Table, state: State) -> bool
     ensures { λ r. ⌜ r ≡ positionsFit table state ⌝ }
 {
     let mut found = 0u16;
-    for k in 0..16 {
+    for k in 0..State::TASKS {
         let task = table.tasks[k];
         let job = state.jobs[k];
         let held = job.held;

@@ -43,7 +43,7 @@ fn has_begun(state: State, runner: Runner) -> bool
         Runner::Nobody => true,
         Runner::Job(p) => {
             let k = p as usize;
-            if k < 16 {
+            if k < State::TASKS {
                 let job = state.jobs[k];
                 return job.started;
             }

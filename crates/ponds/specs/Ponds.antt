@@ -7,6 +7,9 @@ use Rattle.units.specs.Folds.{listed}
 use Rattle.table.specs.declared.Task.{Task}
 use Rattle.table.specs.declared.Table.{Table}
 use Rattle.admission.specs.Admission.{ticksInRound, B, independentSum, synchronizationSum, answer, verdict}
+use Rattle.ponds.specs.Runs.{Event, release, tick, carry, listing, last, runsNext}
+use Rattle.state.specs.declared.Report.the-variants.{Take, Give, Done}
+use Rattle.units.specs.Clock.{after, distance}
 
 -- a task with T = D: (D, C, I, S) and its limits on resources 0 and 1
 abbrev pub task : ℕ → ℕ → ℕ → ℕ → ℕ → ℕ → Task
@@ -33,6 +36,19 @@ p3 = p1 240 4 4
 abbrev pub p5 : Table
 p5 = table 6 280 4 (task 10 6 1 6 0 0 ∷ task 10 18 6 6 0 0 ∷ task 14 6 6 6 6 0 ∷ task 280 48 6 6 42 0 ∷ [])
 
+-- 01's listing: "F 2, G 20; position 0: T = D = 10, C 2, I 1, S 2, resource 0 limit 2; position 1: T = D = 20, C 8, I 1, S 2, resource 0 limit 4"
+abbrev pub two : Table
+two = table 2 20 2 (task 10 2 1 2 2 0 ∷ task 20 8 1 2 4 0 ∷ [])
+
+-- for P7: the ceiling of resource 0 is 10, by position 1; position 0 has a D of 9, and position 2 one of 10
+abbrev pub p7 : Table
+p7 = table 4 90 4 (task 9 1 1 4 0 0 ∷ task 10 1 1 4 1 0 ∷ task 10 1 1 4 0 0 ∷ task 90 8 1 4 8 0 ∷ [])
+
+-- P5's releases: "Position 3 released at 0 takes resource 0 at its first report; positions 0 and 1 released at 1 and 11, position 2 at 7; all use whole budgets."
+abbrev pub p5Events : List Event
+p5Events =
+    (release 3 ∷ tick (Take 0) ∷ release 0 ∷ release 1 ∷ []) ++ (carry 6 ++ ((release 2 ∷ []) ++ (carry 4 ++ ((release 0 ∷ release 1 ∷ []) ++ carry 5))))
+
 -- the number and the position
 abbrev pub said : Table → List ℕ
 said t = answer (verdict t) .0 ∷ answer (verdict t) .1 ∷ []
@@ -57,6 +73,24 @@ ponds =
     ∷ pond (said (p1 241 4 5)) (5 ∷ 0 ∷ [])
     -- P5: "Independent sum 280; synchronization at position 2 is 272. Passed."
     ∷ pond (said p5 ++ (independentSum p5 ∷ synchronizationSum p5 2 ∷ [])) (0 ∷ 0 ∷ 280 ∷ 272 ∷ [])
+    -- P5: "Here it runs in tick 16."
+    ∷ pond (runsNext p5 0 p5Events) (16 ∷ 2 ∷ [])
+    -- P6: "tick 4,294,967,290, D 10: deadline 4, behind a deadline of 4,294,967,295."
+    ∷ pond (after 4294967290 10 ∷ distance 4294967290 4 ∷ distance 4294967290 4294967295 ∷ []) (4 ∷ 10 ∷ 5 ∷ [])
+    -- P7: "top whose D equals the ceiling is blocked; with D one less it is not."
+    ∷ pond (runsNext p7 0 (release 3 ∷ tick (Take 0) ∷ release 2 ∷ [])) (1 ∷ 3 ∷ [])
+    ∷ pond (runsNext p7 0 (release 3 ∷ tick (Take 0) ∷ release 0 ∷ [])) (1 ∷ 0 ∷ [])
+    -- P8: "release after T - 1 closed ticks, job ended: 12; after T: taken."
+    ∷ pond (last two 0 ((release 0 ∷ tick Done ∷ []) ++ (carry 8 ++ (release 0 ∷ [])))) (9 ∷ 0 ∷ 12 ∷ [])
+    ∷ pond (last two 0 ((release 0 ∷ tick Done ∷ []) ++ (carry 9 ++ (release 0 ∷ [])))) (10 ∷ 0 ∷ 0 ∷ [])
+    -- P9: "carry on at the section limit: cut, resource free."
+    ∷ pond (last two 0 ((release 1 ∷ tick (Take 0) ∷ []) ++ carry 4)) (4 ∷ 1 ∷ 0 ∷ 1 ∷ 2 ∷ [])
+    ∷ pond (last two 0 ((release 1 ∷ tick (Take 0) ∷ []) ++ (carry 4 ++ (release 0 ∷ tick (Take 0) ∷ [])))) (5 ∷ 0 ∷ 0 ∷ 1 ∷ 0 ∷ [])
+    -- P10: "give at an idle tick: 14."
+    ∷ pond (last two 0 (tick Give ∷ [])) (0 ∷ 14 ∷ [])
+    -- the listing of document 01, line by line
+    ∷ pond (listing two 0 (release 1 ∷ tick (Take 0) ∷ release 0 ∷ tick Give ∷ tick Done ∷ tick Done ∷ []))
+    ((0 ∷ 1 ∷ 0 ∷ []) ++ ((0 ∷ 1 ∷ 0 ∷ 1 ∷ 0 ∷ []) ++ ((1 ∷ 0 ∷ 0 ∷ []) ++ ((1 ∷ 1 ∷ 1 ∷ 2 ∷ 0 ∷ []) ++ ((2 ∷ 0 ∷ 1 ∷ 2 ∷ 1 ∷ []) ++ (3 ∷ 1 ∷ 0 ∷ 1 ∷ 1 ∷ []))))))
     -- P10: "A table of no tasks: 2."
     ∷ pond (said (table 5 240 0 [])) (2 ∷ 0 ∷ [])
     ∷ []

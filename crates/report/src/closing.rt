@@ -28,7 +28,7 @@ fn waits(jobs: [Job; 16]) -> [Job; 16]
     ensures { λ r. ⌜ r ≡ map waited jobs ⌝ }
 {
     let mut next = jobs;
-    for k in 0..16 {
+    for k in 0..State::TASKS {
         let job = next[k];
         next[k] = waited(job);
     }
@@ -60,7 +60,7 @@ fn stands(now: Tick, job: Job) -> bool
 pub(crate) fn late(state: State) -> bool
     ensures { λ r. ⌜ r ≡ late state ⌝ }
 {
-    for k in 0..16 {
+    for k in 0..State::TASKS {
         let job = state.jobs[k];
         if stands(state.tick, job) {
             return true;

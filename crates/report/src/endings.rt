@@ -4,6 +4,7 @@ ghost use Prim.Native.Nat.{_+_, min};
 ghost use Rattle.units.specs.Amounts.{steps};
 ghost use Rattle.report.specs.Report.{heldOn, worked, ended, holding, atLimit, settled};
 use crate::Outcome;
+use state::Answer;
 use state::Held;
 use state::Job;
 use state::Report;
@@ -103,13 +104,13 @@ pub(crate) fn settled(task: Task, said: Report, job: Job) -> Outcome
     ensures { λ r. ⌜ r ≡ settled task said job ⌝ }
 {
     let gone = ended(job);
-    let ending = 2;
+    let ending = Answer::CUT;
     let cut = Outcome { job: gone, ending };
     let spent = job.used.0 == task.budget.0;
     match said {
         Report::Done => Outcome {
             job: gone,
-            ending: 1,
+            ending: Answer::DONE,
         },
         Report::CarryOn => {
             let held = job.held;

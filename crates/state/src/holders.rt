@@ -44,7 +44,7 @@ impl State {
         ensures { λ r. ⌜ r ≡ heldResources self ⌝ }
     {
         let mut found = 0u16;
-        for k in 0..16 {
+        for k in 0..State::TASKS {
             let job = self.jobs[k];
             let held = job.held;
             let next = held.join(found);

@@ -104,7 +104,7 @@ impl Job {
 impl State {
     pub const TASKS: usize = 16;
 
-    pub const RESOURCES: u8 = 8;
+    pub const RESOURCES: usize = 8;
 
     // A marked deadline is at most so far ahead.
     pub const AHEAD: u32 = 65535;
@@ -131,8 +131,7 @@ impl State {
 }
 
 impl Answer {
-    pub const GOES_ON: u8 = 0;
-
+    // Endings; 0 goes on.
     pub const DONE: u8 = 1;
 
     pub const CUT: u8 = 2;

@@ -55,7 +55,7 @@ impl State {
         ensures { λ r. ⌜ r ≡ firstInOrder (λ j. cond started (isStarted j) (isPending j)) self ⌝ }
     {
         let mut best = State::NO_PLACE;
-        for k in 0..16 {
+        for k in 0..State::TASKS {
             let job = self.jobs[k];
             let at = place(self.tick, job.deadline, k as u8);
             best = nearer(best, wanted(job, started), at);
@@ -68,7 +68,7 @@ impl State {
         ensures { λ r. ⌜ r ≡ lastHolder self behind ⌝ }
     {
         let mut best: u64 = 0;
-        for k in 0..16 {
+        for k in 0..State::TASKS {
             let job = self.jobs[k];
             let at = place(self.tick, job.deadline, k as u8);
             best = farther(best, holds_behind(job, at, behind), at);
