@@ -48,7 +48,7 @@ impl Line {
         next
     }
 
-    // Words come before numbers and have at most seven letters.
+    // A word has at most seven letters.
     fn with_letter(self, letter: u8) -> Line {
         if self.reading == Line::DIGITS {
             return self.wrong();
@@ -80,10 +80,12 @@ impl Line {
         next
     }
 
+    // Words come before numbers.
     fn with_word(self) -> Line {
         let mut next = self;
         if self.word == 0 {
             next.word = self.value;
+            next.is_wrong = self.is_wrong || self.count != 0;
         } else {
             next.is_wrong = self.is_wrong || (self.said != 0 || self.count != 0);
             next.said = self.value;
@@ -135,7 +137,7 @@ impl Line {
 
     // Whether nothing has been read.
     pub(crate) fn is_blank(self) -> bool {
-        self.word == 0 && (self.value == 0 && (self.count == 0 && !self.is_wrong))
+        self.word == 0 && (self.reading == Line::NOTHING && (self.count == 0 && !self.is_wrong))
     }
 
     fn with_note(self) -> Line {
