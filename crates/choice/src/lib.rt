@@ -8,6 +8,7 @@ use state::Runner;
 use state::State;
 use table::Table;
 
+mod order;
 mod rules;
 mod runner;
 
@@ -28,7 +29,7 @@ pub struct Choice {
 pub fn turn_of(table: Table, state: State) -> Turn
     ensures { λ r. ⌜ r ≡ turn table state ⌝ }
 {
-    let top = state.first(false);
+    let top = order::first(state, false);
     if top < State::NO_PLACE {
         let run = runner::runner(table, state, top);
         return rules::rules(table, state, top, run);

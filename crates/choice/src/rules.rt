@@ -7,6 +7,7 @@ ghost use Rattle.units.specs.Amounts.{ticks};
 ghost use Rattle.state.specs.Order.{positionOf, firstInOrder, isPending};
 ghost use Rattle.choice.specs.Choice.{shortestAhead, fastest, inherited, markPlace, markAt, noHolderBehind, rules};
 use crate::Turn;
+use crate::order;
 use crate::runner::position;
 use state::Job;
 use state::Mark;
@@ -14,7 +15,6 @@ use state::Mode;
 use state::Place;
 use state::Runner;
 use state::State;
-use state::order;
 use table::Table;
 use table::Task;
 use units::Tick;
@@ -102,16 +102,6 @@ fn inherited(table: Table, state: State, run: u64) -> u8
     fastest(table, ahead, own)
 }
 
-// The later of two places in the order.
-fn later(one: u64, other: u64) -> u64
-    ensures { λ r. ⌜ r ≡ max one other ⌝ }
-{
-    if one < other {
-        return other;
-    }
-    one
-}
-
 // The mark's place; 0 where there is none.
 fn mark_place(now: Tick, mark: Mark) -> u64
     ensures { λ r. ⌜ r ≡ markPlace (now .0) mark ⌝ }
@@ -171,11 +161,14 @@ pub(crate) fn rules(table: Table, state: State, top: u64, run: u64) -> Turn
 {
     let mark = state.mark;
     let old = mark_place(state.tick, mark);
-    let last = state.last_holder(run);
+    let last = order::last_holder(state, run);
     let k = position(run);
     let task = table.tasks[k as usize];
     if run != top {
-        let moved = mark_at(state.tick, later(old, later(run, last)));
+        let moved = mark_at(
+            state.tick,
+            order::farther(old, true, order::farther(run, true, last)),
+        );
         let speed = inherited(table, state, run);
         return Turn {
             runner: Runner::Job(k),
@@ -185,7 +178,7 @@ pub(crate) fn rules(table: Table, state: State, top: u64, run: u64) -> Turn
         };
     }
     if 0 < last {
-        let moved = mark_at(state.tick, later(old, last));
+        let moved = mark_at(state.tick, order::farther(old, true, last));
         return Turn {
             runner: Runner::Job(k),
             mark: moved,

@@ -6,6 +6,7 @@ ghost use lib.ListN.{getD};
 ghost use Rattle.units.specs.Amounts.{ticks};
 ghost use Rattle.state.specs.Order.{positionOf, firstInOrder, isPending};
 ghost use Rattle.choice.specs.Choice.{bars, blocked, runner, begin};
+use crate::order;
 use state::Held;
 use state::Job;
 use state::Runner;
@@ -68,7 +69,7 @@ pub(crate) fn runner(table: Table, state: State, top: u64) -> u64
     ensures { λ r. ⌜ r ≡ runner table state ⌝ }
 {
     if blocked(table, state, position(top) as usize) {
-        return state.first(true);
+        return order::first(state, true);
     }
     top
 }

@@ -48,7 +48,7 @@ fn report_run(table: Table, state: State, turn: Turn, position: u8, said: Report
     let p = position as usize;
     let task = table.tasks[p];
     let job = state.jobs[p];
-    let number = objection::objection(task, job, state.held(), said);
+    let number = objection::objection(task, job, objection::held(state), said);
     if number != 0 {
         return Answer::bare(number, state);
     }

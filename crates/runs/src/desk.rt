@@ -25,32 +25,8 @@ pub struct Desk {
 impl Desk {
     pub(crate) fn new() -> Desk {
         let table = table([0; 24]);
-        let state = state([
-            0,
-            1,
-            Line::NONE,
-            Line::NONE,
-            0,
-            0,
-            0,
-            0,
-            0,
-            0,
-            0,
-            0,
-            0,
-            0,
-            0,
-            0,
-            0,
-            0,
-            0,
-            0,
-            0,
-            0,
-            0,
-            0,
-        ]);
+        let start = State::fresh(table, Tick(0));
+        let state = start.state;
         Desk {
             table: table,
             state: state,
@@ -177,20 +153,16 @@ fn mark(values: [u64; 24]) -> Mark {
     })
 }
 
-fn no_job() -> Job {
-    Job::NONE
-}
-
 // A state without jobs.
 pub(crate) fn state(values: [u64; 24]) -> State {
     let now = tick(values[0]);
     let mark = mark(values);
     let half = half(values);
     let runner = runner(values);
-    let none = no_job();
+    let jobs = [Job::NONE; 16];
     State {
         tick: now,
-        jobs: [none; 16],
+        jobs: jobs,
         mark: mark,
         half: half,
         runner: runner,

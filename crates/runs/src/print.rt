@@ -103,13 +103,6 @@ fn truth(is_so: bool) {
     }
 }
 
-fn is_holding(held: Held) -> bool {
-    match held {
-        Held::Nothing => false,
-        Held::In(_) => true,
-    }
-}
-
 fn is_empty(job: Job) -> bool {
     let held = job.held;
     if job.pending {
@@ -118,7 +111,7 @@ fn is_empty(job: Job) -> bool {
     if job.started {
         return false;
     }
-    if is_holding(held) {
+    if held.any() {
         return false;
     }
     job.deadline.0 == 0 && (job.used.0 == 0 && job.wait.0 == 0)

@@ -9,7 +9,6 @@ use units::Tick;
 use units::Ticks;
 
 mod holders;
-pub mod order;
 
 // A resource that is held, and the steps since it was taken.
 pub struct Section {
@@ -108,6 +107,9 @@ impl State {
 
     // A marked deadline is at most so far ahead.
     pub const AHEAD: u32 = 65535;
+
+    // Behind every place in the order of the jobs.
+    pub const NO_PLACE: u64 = 1099511627776;
 
     // The table's verdict, and a state without jobs, waits or mark: at the tick that is asked for if the table passes, else at 0.
     pub fn fresh(table: Table, tick: Tick) -> Start

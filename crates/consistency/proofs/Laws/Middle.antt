@@ -1,14 +1,13 @@
 -- In mid-tick: the choice made again is the state itself, and what the choice's laws ask of a state. Assumes nothing.
-use Prim.Native.Nat.{ℕ, _^_, _≤_, _<_}
+use Prim.Native.Nat.{ℕ, _^_, _<_}
 use mathlib.Core.Path.{_≡_, refl, sym, ap, _∙_}
-use mathlib.Core.Bool.{Bool, true, false, false≢true}
+use mathlib.Core.Bool.{true, false, false≢true}
 use native.Mathlib.Decide.{decLt}
 use native.Mathlib.Omega.{arith}
 use mathlib.Core.List.{List}
 use lib.ListN.{length, getD, set}
 use lib.Seq.{set-getD, getD-set-same}
 use Rattle.table.specs.declared.Table.{Table}
-use Rattle.table.specs.Table.{taskAt}
 use Rattle.admission.proofs.Laws.Admitted.{Admitted, admitted}
 use Rattle.state.specs.declared.Job.{Job}
 use Rattle.state.specs.declared.State.{State}
@@ -17,7 +16,6 @@ use Rattle.state.specs.declared.Held.the-variants.{Nothing}
 use Rattle.state.specs.declared.Runner.{Runner}
 use Rattle.state.specs.declared.Runner.the-variants as Runs
 use Rattle.state.specs.State.{noJob, jobAt}
-use Rattle.choice.specs.declared.Turn.{Turn}
 use Rattle.choice.specs.Choice.{turn, begun, begin, choice}
 use Rattle.choice.proofs.Laws.Ready.{Ready}
 use Rattle.choice.proofs.Laws.Runner.{runner-below}

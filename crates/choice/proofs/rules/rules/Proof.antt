@@ -22,11 +22,11 @@ mul-task c = search needs
 element-copy-out-task : tie.Need-element-copy-out-task
 element-copy-out-task c = search needs
 
-later-requires : tie.Need-later-requires
-later-requires c κs = search needs
+farther-requires : tie.Need-farther-requires
+farther-requires c κs = search needs
 
-later-requires-2 : tie.Need-later-requires-2
-later-requires-2 c κs = search needs
+farther-requires-2 : tie.Need-farther-requires-2
+farther-requires-2 c κs = search needs
 
 mark-at-requires : tie.Need-mark-at-requires
 mark-at-requires c κs = search needs
@@ -43,14 +43,14 @@ returns c =
       ← c .before .before .before .before .before .before .before .before .before .pre .0,
       ne-eqb _ _ (c .before .before .before .before .if1 .taken),
       c .before .mark-at .ensures,
-      c .before .before .later2 .ensures,
-      c .before .before .before .later .ensures,
+      c .before .before .farther2 .ensures,
+      c .before .before .before .farther .ensures,
       c .before .before .before .before .before .before .position .ensures,
       c .inherited .ensures,
     )
 
-later-requires-3 : tie.Need-later-requires-3
-later-requires-3 c κs = search needs
+farther-requires-3 : tie.Need-farther-requires-3
+farther-requires-3 c κs = search needs
 
 mark-at-requires-2 : tie.Need-mark-at-requires-2
 mark-at-requires-2 c κs = search needs
@@ -65,7 +65,7 @@ returns-2 c =
       eq-eqb _ _ (c .before .before .before .if1 .left),
       lt-ltb _ _ (c .before .before .if2 .taken),
       c .mark-at2 .ensures,
-      c .before .later3 .ensures,
+      c .before .farther3 .ensures,
       c .before .before .before .before .before .position .ensures,
     )
 
@@ -95,12 +95,12 @@ rules-spec =
     cast-task
     mul-task
     element-copy-out-task
-    later-requires
-    later-requires-2
+    farther-requires
+    farther-requires-2
     mark-at-requires
     inherited-requires
     returns
-    later-requires-3
+    farther-requires-3
     mark-at-requires-2
     returns-2
     no-holder-behind-requires

@@ -5,11 +5,11 @@ use native.Mathlib.Omega.{arith}
 use lib.Dec.{ltb}
 use Rattle.units.specs.Folds.{over, largest}
 use Rattle.units.proofs.Laws.Folds.{largest-next}
 use Rattle.state.specs.State.{jobAt}
 use Rattle.state.specs.Order.{lastHolder, placeAt, isHolder}
 use borrow.Author.Needs.{needs}
-use Rattle.state.proofs.State.last_holder.Statement.{statement}
-use Rattle.state.proofs.State.last_holder.Tie as tie
+use Rattle.choice.proofs.order.last_holder.Statement.{statement}
+use Rattle.choice.proofs.order.last_holder.Tie as tie
 
 abbrev Inv-loop : tie.InvT-loop
 Inv-loop behind self best₀ k₀ best k =

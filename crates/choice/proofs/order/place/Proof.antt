@@ -1,7 +1,7 @@
 use Rattle.state.specs.Order.{place}
 use borrow.Author.Needs.{needs}
-use Rattle.state.proofs.order.place.Statement.{statement}
-use Rattle.state.proofs.order.place.Tie as tie
+use Rattle.choice.proofs.order.place.Statement.{statement}
+use Rattle.choice.proofs.order.place.Tie as tie
 
 distance-requires : tie.Need-distance-requires
 distance-requires c κs = search needs

@@ -3,11 +3,11 @@ use mathlib.Core.Path.{_≡_, refl, _∙_, ap}
 use native.Mathlib.Omega.{arith}
 use Rattle.units.specs.Folds.{over, some}
 use Rattle.units.specs.Sets.{set}
 use Rattle.state.specs.Order.{heldResources}
 use Rattle.state.proofs.Laws.Holders.{heldBelow, held-next}
 use borrow.Author.Needs.{needs}
-use Rattle.state.proofs.State.held.Statement.{statement}
-use Rattle.state.proofs.State.held.Tie as tie
+use Rattle.report.proofs.objection.held.Statement.{statement}
+use Rattle.report.proofs.objection.held.Tie as tie
 
 abbrev Inv-loop : tie.InvT-loop
 Inv-loop self found₀ k₀ found k = (k ≤ 16) × (found ≡ heldBelow self k)

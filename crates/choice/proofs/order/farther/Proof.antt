@@ -1,7 +1,7 @@
 use native.Mathlib.Omega.{arith}
 use borrow.Author.Needs.{needs}
-use Rattle.state.proofs.order.farther.Statement.{statement}
-use Rattle.state.proofs.order.farther.Tie as tie
+use Rattle.choice.proofs.order.farther.Statement.{statement}
+use Rattle.choice.proofs.order.farther.Tie as tie
 
 returns : tie.Need-returns
 returns c = rw (c .before .if1 .taken) (omega arith)

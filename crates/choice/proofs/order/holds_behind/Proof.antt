@@ -1,6 +1,6 @@
 use borrow.Author.Needs.{needs}
-use Rattle.state.proofs.holders.holds_behind.Statement.{statement}
-use Rattle.state.proofs.holders.holds_behind.Tie as tie
+use Rattle.choice.proofs.order.holds_behind.Statement.{statement}
+use Rattle.choice.proofs.order.holds_behind.Tie as tie
 
 any-requires : tie.Need-any-requires
 any-requires c κs = search needs

@@ -4,11 +4,11 @@ use native.Mathlib.Omega.{arith}
 use mathlib.Core.Bool.{cond}
 use Rattle.units.specs.Folds.{over, smallest}
 use Rattle.units.proofs.Laws.Folds.{smallest-next}
 use Rattle.state.specs.State.{jobAt}
 use Rattle.state.specs.Order.{firstInOrder, placeAt, noPlace, isStarted, isPending}
 use borrow.Author.Needs.{needs}
-use Rattle.state.proofs.State.first.Statement.{statement}
-use Rattle.state.proofs.State.first.Tie as tie
+use Rattle.choice.proofs.order.first.Statement.{statement}
+use Rattle.choice.proofs.order.first.Tie as tie
 
 abbrev Inv-loop : tie.InvT-loop
 Inv-loop started self best₀ k₀ best k = (k ≤ 16) × (best ≡ smallest (λ k. cond started (isStarted (jobAt self k)) (isPending (jobAt self k))) (placeAt self) noPlace k)
