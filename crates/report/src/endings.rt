@@ -45,19 +45,11 @@ pub(crate) fn worked(task: Task, speed: u8, job: Job) -> Job
     ensures { λ r. ⌜ r ≡ worked task speed job ⌝ }
 {
     let before = job.held;
-    let deadline = job.deadline;
     let most = task.budget;
     let used = risen(job.used, Steps::given(speed), most);
-    let held = held_on(task, speed, before);
-    let wait = job.wait;
-    Job {
-        pending: job.pending,
-        started: job.started,
-        deadline,
-        used,
-        held,
-        wait,
-    }
+    let mut next = holding(held_on(task, speed, before), job);
+    next.used = used;
+    next
 }
 
 fn ended(job: Job) -> Job

@@ -11,8 +11,12 @@ risen-requires c κs = search needs
 held-on-requires : tie.Need-held-on-requires
 held-on-requires c κs = search needs
 
+holding-requires : tie.Need-holding-requires
+holding-requires c κs = search needs
+
 returns : tie.Need-returns
-returns c = rw (c .before .held-on .ensures, c .before .before .risen .ensures, c .before .before .before .given .ensures)
+returns c = rw (c .holding .ensures, c .before .held-on .ensures, c .before .before .risen .ensures, c .before .before .before .given .ensures)
 
 pub worked-spec : {M : Type 1} → statement M
-worked-spec = tie.close (tie.spec given-requires risen-requires held-on-requires returns)
+worked-spec =
+    tie.close (tie.spec given-requires risen-requires held-on-requires holding-requires returns)
