@@ -65,6 +65,10 @@ module _ (t : Table) (s : State) (p : ℕ) (m : Mark) (r : Runner) where
 begun-begun : (j : Job) → j .started ≡ true → begun j ≡ j
 begun-begun j e = rw (← e)
 
+-- where the job had started, the jobs are as they were
+pub jobs-same : (s : State) (p : ℕ) → jobAt s p .started ≡ true → set (s .jobs) p (begun (jobAt s p)) ≡ s .jobs
+jobs-same s p e = ap (set (s .jobs) p) (begun-begun (jobAt s p) e) ∙ set-getD (s .jobs) p noJob
+
 module _ (t : Table) (s : State) (ready : Ready t s) (some : top s < noPlace) where
   abbrev run : ℕ
   run = runner t s
@@ -97,7 +101,7 @@ module _ (t : Table) (s : State) (ready : Ready t s) (some : top s < noPlace) wh
       go : (b : Bool) → blocked t s (positionOf (top s)) ≡ b → runner t next ≡ run
       go true h =
           ap (λ l. runner t (record { tick = s .tick; jobs = l; mark = turn t s .mark; half = Second; runner = Runs.Job at }))
-          (ap (set (s .jobs) at) (begun-begun (jobAt s at) (runs-started t s ready some h)) ∙ set-getD (s .jobs) at noJob)
+          (jobs-same s at (runs-started t s ready some h))
           ∙ unmarked (turn t s .mark) (Runs.Job at)
       go false h =
           let e : positionOf (top next) ≡ at = ap positionOf (tops ∙ sym (runner-free t s h)) in

@@ -6,7 +6,7 @@ use native.Mathlib.Decide.{decLt}
 use native.Mathlib.Omega.{arith}
 use mathlib.Core.List.{List}
 use lib.ListN.{length, getD, set}
-use lib.Seq.{set-getD, getD-set-same}
+use lib.Seq.{getD-set-same}
 use Rattle.table.specs.declared.Table.{Table}
 use Rattle.admission.proofs.Laws.Admitted.{Admitted, admitted}
 use Rattle.state.specs.declared.Job.{Job}
@@ -17,6 +17,7 @@ use Rattle.state.specs.declared.Runner.{Runner}
 use Rattle.state.specs.declared.Runner.the-variants as Runs
 use Rattle.state.specs.State.{noJob, jobAt}
 use Rattle.choice.specs.Choice.{turn, begun, begin, choice}
+use Rattle.choice.proofs.Laws.Again.{jobs-same}
 use Rattle.choice.proofs.Laws.Ready.{Ready}
 use Rattle.choice.proofs.Laws.Runner.{runner-below}
 use Rattle.consistency.proofs.Laws.Facts.{Consistent, Unchanged}
@@ -55,12 +56,9 @@ module _ (t : Table) (s : State) (mid : s .half ≡ Second) where
   unfolding choice
   again-same u = rw (u .runner, u .mark, ← mid) (ap (λ l. record { tick = s .tick; jobs = l; mark = s .mark; half = s .half; runner = s .runner }) (jobs (s .runner) (u .begun)))
     where
-      begun-same : (j : Job) → j .started ≡ true → begun j ≡ j
-      begun-same j e = rw (← e)
-
       jobs : (r : Runner) → ((p : ℕ) → r ≡ Runs.Job p → jobAt s p .started ≡ true) → begin s r ≡ s .jobs
       jobs Runs.Nobody f = refl
-      jobs (Runs.Job p) f = ap (set (s .jobs) p) (begun-same (jobAt s p) (f p refl)) ∙ set-getD (s .jobs) p noJob
+      jobs (Runs.Job p) f = jobs-same s p (f p refl)
 
   pub same-again : length (s .jobs) ≡ 16 → choice t s .state ≡ s → Unchanged t s
   unfolding choice
