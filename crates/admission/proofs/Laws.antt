@@ -3,3 +3,4 @@ pub mod Sums
 pub mod Verdict
 pub mod Admitted
 pub mod Alike
+pub mod Room

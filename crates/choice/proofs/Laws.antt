@@ -1,3 +1,4 @@
+pub mod Bars
 pub mod Again
 pub mod Choice
 pub mod Ready

@@ -1,1 +1,2 @@
 pub mod Ponds
+pub mod Histories

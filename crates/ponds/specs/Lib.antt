@@ -1,2 +1,4 @@
 pub mod Ponds
 pub mod Runs
+pub mod Histories
+pub mod Document003

@@ -1,2 +1,4 @@
 pub mod Jobs
 pub mod Lists
+pub mod Answers
+pub mod Sections

@@ -2,3 +2,4 @@ pub mod Amounts
 pub mod Clock
 pub mod Folds
 pub mod Sets
+pub mod Sums

@@ -9,9 +9,10 @@ use lib.ListN.{getD}
 use Rattle.units.specs.declared.Ticks.{Ticks}
 use Rattle.units.specs.Amounts.{ticks}
 use Rattle.units.specs.Folds.{largest}
-use Rattle.units.proofs.Laws.Folds.{largest-same, listed-at}
+use Rattle.units.proofs.Laws.Folds.{largest-same}
 use Rattle.table.specs.declared.Table.{Table}
 use Rattle.table.specs.Table.{ceiling, ceilings}
+use Rattle.table.proofs.Laws.Ceilings.{ceilings-at}
 use Rattle.admission.specs.Admission.{ticksInRound}
 
 pub no-ticks : (work speed g : ℕ) → ticksInRound work speed g 0 ≡ 0
@@ -25,8 +26,5 @@ term-fits x g d h l = let q : g / d ≤ 4294967295 = omega (arith, div-le-self g
 -- the ceilings, read off their list
 pub reach-same : (t : Table) {l : List Ticks} → l ≡ ceilings t → (d : ℕ) (f : ℕ → ℕ) →
     largest (λ r. leb (getD l r (ticks 0) .0) d) f 8 ≡ largest (λ r. leb (ceiling t r) d) f 8
-unfolding ceilings
 reach-same t e d f =
-    largest-same _ _ _ _ 8
-    (λ r m. ap (λ (c : Ticks). leb (c .0) d) (ap (λ (l : List Ticks). getD l r (ticks 0)) e ∙ listed-at (ticks 0) (λ r. ticks (ceiling t r)) 8 r m))
-    (λ r m. refl)
+    largest-same _ _ _ _ 8 (λ r m. ap (λ (l : List Ticks). leb (getD l r (ticks 0) .0) d) e ∙ ap (λ (c : ℕ). leb c d) (ceilings-at t r m)) (λ r m. refl)

@@ -3,14 +3,15 @@ use Prim.Native.Nat.{ℕ, _/_, max, _≤_, _<_}
 use mathlib.Core.Path.{_≡_, refl, sym, ap, _∙_}
 use mathlib.Core.Bool.{true}
 use mathlib.Core.Logic.{_⊎_, inl, inr}
-use lib.ListN.{set}
+use lib.ListN.{length, set, length-set}
 use lib.Seq.{getD-set-same, getD-set-other}
 use lib.Dec.{ltb}
 use native.Mathlib.Nat.{le-trans}
 use native.Mathlib.Decide.{decLt}
 use native.Mathlib.Omega.{arith}
 use borrow.Author.Tests.{ltb-true}
-use Rattle.units.specs.Clock.{tick, after}
+use Rattle.units.specs.Clock.{tick, after, distance}
+use Rattle.units.proofs.Laws.Clock.{distance-after}
 use Rattle.units.proofs.Laws.Folds.{both}
 use Rattle.table.specs.declared.Table.{Table}
 use Rattle.table.specs.Table.{D, I, S}
@@ -18,12 +19,14 @@ use Rattle.state.specs.declared.State.{State}
 use Rattle.state.specs.declared.Place.{Place}
 use Rattle.state.specs.declared.Mark.{Mark}
 use Rattle.state.specs.declared.Mark.the-variants.{Absent, At}
+use Rattle.state.specs.declared.Half.the-variants.{Second}
+use Rattle.state.specs.declared.Runner.{Runner}
 use Rattle.state.specs.declared.Runner.the-variants as Runs
 use Rattle.state.specs.State.{noJob, jobAt}
 use Rattle.state.specs.Order.{place, placeAt, positionOf, noPlace, isHolder, holdsAny, lastHolder}
 use Rattle.state.proofs.Laws.Order.{place-distance, place-position, last-bounds, last-found}
 use Rattle.choice.specs.declared.Turn.{Turn}
-use Rattle.choice.specs.Choice.{top, runner, rules, idle, turn, begun, choice, markPlace, markAt}
+use Rattle.choice.specs.Choice.{top, runner, rules, idle, turn, begun, begin, choice, markPlace, markAt}
 use Rattle.choice.proofs.Laws.Ready.{Ready, runs-at, runs-position}
 use Rattle.choice.proofs.Laws.Rules.{mark-back, given, alone, rule-1, rule-2, rule-3, rule-4, rule-5, Fits, one, two, three, four, five, fits, rules-runner}
 use Rattle.choice.proofs.Laws.Runner.{turn-runs, turn-idle}
@@ -42,6 +45,25 @@ good-max t a b ha hb = go (decLt a b)
 
 good-lt : (t : Table) (k : ℕ) → Good t k → k < noPlace
 good-lt t k g = omega (arith, g .1)
+
+-- ---- the state of the choice
+
+pub choice-is : (t : Table) (s : State)
+    → choice t s .state ≡ record { tick = s .tick; jobs = begin s (turn t s .runner); mark = turn t s .mark; half = Second; runner = turn t s .runner }
+unfolding choice
+choice-is t s = refl
+
+pub choice-turn : (t : Table) (s : State) → choice t s .turn ≡ turn t s
+unfolding choice
+choice-turn t s = refl
+
+begin-long : (s : State) (r : Runner) → length (begin s r) ≡ length (s .jobs)
+begin-long s Runs.Nobody = refl
+begin-long s (Runs.Job p) = length-set (s .jobs) p (begun (jobAt s p))
+
+pub choice-long : (t : Table) (s : State) → length (choice t s .state .jobs) ≡ length (s .jobs)
+unfolding choice
+choice-long t s = begin-long s (turn t s .runner)
 
 -- ---- no pending job
 
@@ -165,12 +187,13 @@ module _ (t : Table) (s : State) (ready : Ready t s) (some : top s < noPlace) wh
 
   -- ---- L4 and L7: the mark afterwards, by its place
 
-  -- the mark stands at a good place
+  -- the mark stands at a place, in the table and not too far
   pub record Stands (at : ℕ) : Type 0 where
     pub mark : Place
     pub is : turn t s .mark ≡ At mark
     pub place : markPlace now (At mark) ≡ at
-    pub good : Good t at
+    pub position : mark .position < t .count
+    pub ahead : distance now (mark .deadline .0) ≤ 65535
 
   stands : (k v : ℕ) → Good t k → rules t s run ≡ given t s run (markAt now k) v → Stands k
   unfolding markAt
@@ -178,7 +201,8 @@ module _ (t : Table) (s : State) (ready : Ready t s) (some : top s < noPlace) wh
     mark = record { deadline = tick (after now (k / 256)); position = positionOf k };
     is = of (λ u. u .mark ≡ markAt now k) e refl;
     place = mark-back now k (ready .now) (good-lt t k g);
-    good = g;
+    position = g .0;
+    ahead = rw (distance-after now (k / 256) (ready .now) (omega (arith, g .1))) (g .1);
   }
 
   pub stands-1 : (run ≡ top s → ⊥) → Stands (max old (max run (lastHolder s run)))
@@ -229,7 +253,8 @@ module _ (t : Table) (s : State) (ready : Ready t s) (some : top s < noPlace) wh
       mark = m;
       is = of (λ u. u .mark ≡ At m) (rule-4 t s run m h l e b) e;
       place = ap (markPlace now) (sym e);
-      good = old-good;
+      position = ready .marked m e .0;
+      ahead = ready .marked m e .1;
     };
     speed = of (λ u. S t at ≤ u .speed) (rule-4 t s run m h l e b) (omega arith);
     old-mark = omega arith;

@@ -1,13 +1,11 @@
 -- What the laws of the choice ask of a table and a state: less than that the state is consistent. Assumes nothing.
 use Prim.Native.Nat.{ℕ, _^_, _≤_, _<_}
-use mathlib.Core.Path.{_≡_, refl, sym, ap, _∙_}
-use mathlib.Core.Bool.{Bool, true, false, not, _&&_, false≢true}
-use mathlib.Core.List.{List}
+use mathlib.Core.Path.{_≡_, refl, ap, _∙_}
+use mathlib.Core.Bool.{Bool, true, false, not, _&&_}
 use lib.ListN.{length}
 use lib.Dec.{eqb}
 use native.Mathlib.Omega.{arith}
 use borrow.Author.Tests.{not-true, ne-eqb, eqb-false}
-use Rattle.units.specs.declared.Ticks.{Ticks}
 use Rattle.units.specs.Clock.{distance}
 use Rattle.units.specs.Folds.{some}
 use Rattle.units.proofs.Laws.Folds.{both, some-tells, some-holds}
@@ -15,13 +13,13 @@ use Rattle.table.specs.declared.Table.{Table}
 use Rattle.table.specs.Table.{D, I, S, ceilings}
 use Rattle.state.specs.declared.State.{State}
 use Rattle.state.specs.declared.Place.{Place}
-use Rattle.state.specs.declared.Held.{Held}
 use Rattle.state.specs.declared.Held.the-variants.{Nothing}
 use Rattle.state.specs.declared.Mark.the-variants.{At}
 use Rattle.state.specs.State.{jobAt}
 use Rattle.state.specs.Order.{placeAt, positionOf, noPlace, isPending, isStarted, firstInOrder}
 use Rattle.state.proofs.Laws.Order.{first-le, first-found, place-lt, place-position}
 use Rattle.choice.specs.Choice.{top, bars, blocked, runner}
+use Rattle.choice.proofs.Laws.Bars.{bars-held}
 use Rattle.choice.proofs.Laws.Runner.{runner-blocked, runner-free}
 
 pub record Ready (t : Table) (s : State) : Type 0 where
@@ -59,9 +57,6 @@ module _ (t : Table) (s : State) (p : ℕ) where
   blocked-holds h k w = simp (h, some-holds test 16 k (w .0) (simp (w .1, w .2, ne-eqb _ _ (w .3))))
 
 -- ---- L1: the runner is a pending job, at its own place
-
-bars-held : (l : List Ticks) (d : ℕ) (h : Held) → bars l d h ≡ true → (h ≡ Nothing → ⊥)
-bars-held l d h e n = false≢true (sym (ap (bars l d) n) ∙ e)
 
 -- the job at k runs
 abbrev pub RunsAt : Table → State → ℕ → Type 0

@@ -6,7 +6,7 @@ use native.Mathlib.Omega.{arith}
 use borrow.Author.Tests.{lt-ltb, le-leb, eq-eqb, ltb-true, leb-true, eqb-true}
 use Rattle.units.specs.declared.Tick.{Tick}
 use Rattle.units.specs.Clock.{distance}
-use Rattle.units.proofs.Laws.Folds.{both, all-tells, all-holds, listed-at}
+use Rattle.units.proofs.Laws.Folds.{both, all-tells, all-holds}
 use Rattle.table.specs.declared.Task.{Task}
 use Rattle.table.specs.declared.Table.{Table}
 use Rattle.table.specs.Table.{taskAt}
@@ -23,6 +23,7 @@ use Rattle.state.specs.declared.Runner.{Runner}
 use Rattle.state.specs.declared.Runner.the-variants as Runs
 use Rattle.state.specs.State.{jobAt, noJob, empty, passes}
 use Rattle.state.specs.Order.{holdsAny}
+use Rattle.state.proofs.Laws.Fresh.{empty-job}
 use Rattle.choice.specs.Choice.{turn}
 use Rattle.choice.proofs.Laws.Runner.{runner-below}
 use Rattle.consistency.specs.Consistency.{positionFits, markFits, sameRunner, sameMark, hasBegun, unchanged, halfFits, consistent}
@@ -182,13 +183,10 @@ pub fresh-consistent : (t : Table) (now : Tick) → answer (verdict t) .0 ≡ 0 
 unfolding empty
 fresh-consistent t now h = consistent-holds t (empty now) (record {
   passes = h;
-  jobs = λ k l. rw (none k (omega (arith, admitted t h .count))) (no-job-fits (taskAt t k) (now .0));
-  past = λ k l b. none k b;
-  once = λ i j x y l m p. absurd (false≢true (ap holdsAny (sym (ap (λ (j : Job). j .held) (none i l)) ∙ p)));
+  jobs = λ k l. rw (empty-job now k) (no-job-fits (taskAt t k) (now .0));
+  past = λ k l b. empty-job now k;
+  once = λ i j x y l m p. absurd (false≢true (ap holdsAny (sym (ap (λ (j : Job). j .held) (empty-job now i)) ∙ p)));
   mark = λ m e. absurd (false≢true (sym (ap isAbsent e)));
   first = λ e. refl;
   second = λ e. absurd (false≢true (sym (ap isFirst e)));
 })
-  where
-    none : (k : ℕ) → k < 16 → jobAt (empty now) k ≡ noJob
-    none k l = listed-at noJob (λ k. noJob) 16 k l

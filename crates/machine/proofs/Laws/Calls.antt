@@ -16,7 +16,7 @@ use Rattle.state.specs.State.{noJob, jobAt}
 use Rattle.state.specs.Answers.{bare}
 use Rattle.choice.specs.Choice.{choice}
 use Rattle.report.specs.Report as AtReport
-use Rattle.report.proofs.Laws.Jobs as ReportJobs
+use Rattle.report.proofs.Laws.Answers as ReportAnswers
 use Rattle.consistency.specs.Consistency.{consistent}
 use Rattle.consistency.proofs.Laws.Facts.{consistent-tells}
 use Rattle.machine.specs.Machine.{midTick, released, releasedAt, release, chosen, choose, report}
@@ -118,4 +118,4 @@ module _ (t : Table) (s : State) where
       go : (a b : Bool) → (all a b .number ≡ 0 → ⊥) → all a b ≡ bare (all a b .number) s
       go false b h = refl
       go true false h = refl
-      go true true h = ReportJobs.report-refused t s said h
+      go true true h = ReportAnswers.report-refused t s said h

@@ -1,4 +1,4 @@
--- What a report does to the jobs, and what its answer says. Assumes nothing.
+-- What a report does to the jobs. Assumes nothing.
 use Prim.Native.Nat.{ℕ, _+_, _≤_, _<_, min}
 use mathlib.Core.Path.{_≡_, refl, sym, ap, _∙_}
 use mathlib.Core.List.{List}
@@ -8,7 +8,7 @@ use native.Mathlib.Omega.{arith}
 use lib.ListN.{length, getD, set, List·getD-map}
 use lib.Seq.{getD-set-same, getD-set-other}
 use lib.Dec.{eqb}
-use borrow.Author.Tests.{eqb-false}
+use borrow.Author.Tests.{eqb-true, eqb-false}
 use Rattle.units.specs.Amounts.{steps, given}
 use Rattle.table.specs.declared.Task.{Task}
 use Rattle.table.specs.declared.Table.{Table}
@@ -53,35 +53,31 @@ module _ (task : Task) (v : ℕ) (j : Job) where
 
 -- ---- the endings
 
--- what becomes of the job j
-pub record Ending (task : Task) (j : Job) (o : Outcome) : Type 0 where
-  pub wait : o .job .wait ≡ j .wait
-  pub gone : (o .ending ≡ 0 → ⊥) → o .job ≡ ended j
-  -- all but what it holds is as it was
-  pub stays : o .ending ≡ 0 → o .job ≡ holding (o .job .held) j
-  pub unspent : o .ending ≡ 0 → j .used .0 ≡ task .budget .0 → ⊥
+-- what a job that goes on holds, from what it held
+pub data Keeps (task : Task) (said : Report) (before after : Held) : Type 0 where
+  carries : said ≡ CarryOn → atLimit task before ≡ false → after ≡ before → Keeps task said before after
+  takes : (r : ℕ) → said ≡ Take r → after ≡ In (record { resource = r; steps = steps 0 }) → Keeps task said before after
+  gives : said ≡ Give → after ≡ Nothing → Keeps task said before after
 
-pub settled-is : (task : Task) (said : Report) (j : Job) → Ending task j (settled task said j)
+-- what becomes of the job j, that has had the steps of its tick
+pub data Fate (task : Task) (said : Report) (j : Job) (o : Outcome) : Type 0 where
+  done : said ≡ Done → o ≡ record { job = ended j; ending = 1 } → Fate task said j o
+  spent : j .used .0 ≡ task .budget .0 → o ≡ record { job = ended j; ending = 2 } → Fate task said j o
+  stopped : said ≡ CarryOn → atLimit task (j .held) ≡ true → o ≡ record { job = ended j; ending = 2 } → Fate task said j o
+  goes : (h : Held) → (j .used .0 ≡ task .budget .0 → ⊥) → Keeps task said (j .held) h → o ≡ record { job = holding h j; ending = 0 } → Fate task said j o
+
+pub settled-is : (task : Task) (said : Report) (j : Job) → Fate task said j (settled task said j)
 settled-is task said j = go said (eqb (j .used .0) (task .budget .0)) refl (atLimit task (j .held)) refl
   where
-    end : (n : ℕ) → (n ≡ 0 → ⊥) → Ending task j (record { job = ended j; ending = n })
-    end n h = record { wait = refl; gone = λ m. refl; stays = λ e. absurd (h e); unspent = λ e. absurd (h e) }
-
-    on : (h : Held) → eqb (j .used .0) (task .budget .0) ≡ false → Ending task j (record { job = holding h j; ending = 0 })
-    on h e = record { wait = refl; gone = λ m. absurd (m refl); stays = λ z. refl; unspent = λ z. eqb-false _ _ e }
-
-    cut : Ending task j (record { job = ended j; ending = 2 })
-    cut = end 2 (λ e. omega arith)
-
-    go : (said : Report) (spent : Bool) → eqb (j .used .0) (task .budget .0) ≡ spent → (full : Bool) → atLimit task (j .held) ≡ full → Ending task j (settled task said j)
-    go Done spent e full f = end 1 (λ e. omega arith)
-    go CarryOn true e full f = rw e cut
-    go CarryOn false e true f = rw (e, f) cut
-    go CarryOn false e false f = rw (e, f) (on (j .held) e)
-    go (Take r) true e full f = rw e cut
-    go (Take r) false e full f = rw e (on (In (record { resource = r; steps = steps 0 })) e)
-    go Give true e full f = rw e cut
-    go Give false e full f = rw e (on Nothing e)
+    go : (said : Report) (all : Bool) → eqb (j .used .0) (task .budget .0) ≡ all → (full : Bool) → atLimit task (j .held) ≡ full → Fate task said j (settled task said j)
+    go Done all e full f = done refl refl
+    go CarryOn true e full f = spent (eqb-true _ _ e) (rw e)
+    go CarryOn false e true f = stopped refl f (rw (e, f))
+    go CarryOn false e false f = goes (j .held) (eqb-false _ _ e) (carries refl f refl) (rw (e, f))
+    go (Take r) true e full f = spent (eqb-true _ _ e) (rw e)
+    go (Take r) false e full f = goes _ (eqb-false _ _ e) (takes r refl refl) (rw e)
+    go Give true e full f = spent (eqb-true _ _ e) (rw e)
+    go Give false e full f = goes _ (eqb-false _ _ e) (gives refl refl) (rw e)
 
 -- ---- the jobs after the tick
 
@@ -95,88 +91,3 @@ module _ (s : State) where
 
     pub closed-set-other : (k : ℕ) → (k ≡ p → ⊥) → jobAt (closed s (set (s .jobs) p j)) k ≡ waited (jobAt s k)
     closed-set-other k h = closed-at (set (s .jobs) p j) k ∙ ap waited (getD-set-other (s .jobs) p k j noJob h)
-
--- ---- the answer
-
--- the runner's job after its tick, and its ending
-abbrev pub outcome : Table → State → Turn → ℕ → Report → Outcome
-outcome t s u p said = settled (taskAt t p) said (worked (taskAt t p) (u .speed) (jobAt s p))
-
--- the jobs before the waits fall, by who runs
-abbrev pub jobsAfter : Table → State → Turn → Report → Runner → List Job
-jobsAfter t s u said Runs.Nobody = s .jobs
-jobsAfter t s u said (Runs.Job p) = set (s .jobs) p (outcome t s u p said .job)
-
-abbrev pub endingOf : Table → State → Turn → Report → Runner → ℕ
-endingOf t s u said Runs.Nobody = 0
-endingOf t s u said (Runs.Job p) = outcome t s u p said .ending
-
--- of a report that is taken
-abbrev pub taken : State → List Job → Turn → ℕ → Answer
-taken s jobs u ending = record { number = 0; state = closed s jobs; runner = u .runner; mode = u .mode; speed = u .speed; ending = ending }
-
-record Fair (s : State) (jobs : List Job) (u : Turn) (ending : ℕ) (a : Answer) : Type 0 where
-  refused : (a .number ≡ 0 → ⊥) → a ≡ bare (a .number) s
-  done : a .number ≡ 0 → a ≡ taken s jobs u ending
-  in-time : a .number ≡ 0 → late (a .state) ≡ false
-
-module _ (s : State) (u : Turn) where
-  bare-fair : (jobs : List Job) (ending n : ℕ) → (n ≡ 0 → ⊥) → Fair s jobs u ending (bare n s)
-  bare-fair jobs ending n h = record { refused = λ m. refl; done = λ e. absurd (h e); in-time = λ e. absurd (h e) }
-
-  finished-fair : (jobs : List Job) (ending : ℕ) → Fair s jobs u ending (finished s jobs u ending)
-  unfolding finished
-  finished-fair jobs ending = go (late (closed s jobs)) refl
-    where
-      go : (b : Bool) → late (closed s jobs) ≡ b → Fair s jobs u ending (cond b (bare 16 s) (taken s jobs u ending))
-      go true e = bare-fair jobs ending 16 (λ e. omega arith)
-      go false e = record { refused = λ h. absurd (h refl); done = λ z. refl; in-time = λ z. e }
-
-  idle-fair : (said : Report) → Fair s (s .jobs) u 0 (reportIdle s u said)
-  idle-fair CarryOn = finished-fair (s .jobs) 0
-  idle-fair Done = bare-fair (s .jobs) 0 14 (λ e. omega arith)
-  idle-fair (Take r) = bare-fair (s .jobs) 0 14 (λ e. omega arith)
-  idle-fair Give = bare-fair (s .jobs) 0 14 (λ e. omega arith)
-
-  module _ (t : Table) (said : Report) where
-    run-fair : (p : ℕ) → Fair s (jobsAfter t s u said (Runs.Job p)) u (endingOf t s u said (Runs.Job p)) (reportRun t s u p said)
-    unfolding reportRun
-    run-fair p = go (eqb number 0) refl
-      where
-        number : ℕ
-        number = objection (taskAt t p) (jobAt s p) (heldResources s) said
-
-        jobs : List Job
-        jobs = jobsAfter t s u said (Runs.Job p)
-
-        ending : ℕ
-        ending = endingOf t s u said (Runs.Job p)
-
-        go : (b : Bool) → eqb number 0 ≡ b → Fair s jobs u ending (cond b (finished s jobs u ending) (bare number s))
-        go true e = finished-fair jobs ending
-        go false e = bare-fair jobs ending number (eqb-false number 0 e)
-
-    as-fair : (r : Runner) → Fair s (jobsAfter t s u said r) u (endingOf t s u said r) (reportAs t s u r said)
-    as-fair Runs.Nobody = idle-fair said
-    as-fair (Runs.Job p) = run-fair p
-
-module _ (t : Table) (s : State) (said : Report) where
-  -- the report of a turn, by who runs in it
-  pub report-as : {u : Turn} {r : Runner} → u ≡ turn t s → u .runner ≡ r → report t s said ≡ reportAs t s u r said
-  unfolding report
-  report-as {u} e h = ap (λ (v : Turn). reportAs t s v (v .runner) said) (sym e) ∙ ap (λ (r : Runner). reportAs t s u r said) h
-
-  fair : Fair s (jobsAfter t s (turn t s) said (turn t s .runner)) (turn t s) (endingOf t s (turn t s) said (turn t s .runner)) (report t s said)
-  unfolding report
-  fair = as-fair s (turn t s) t said (turn t s .runner)
-
-  -- a refusal hands back the state as it went in
-  pub report-refused : (report t s said .number ≡ 0 → ⊥) → report t s said ≡ bare (report t s said .number) s
-  report-refused h = fair .refused h
-
-  pub report-taken : report t s said .number ≡ 0
-      → report t s said ≡ taken s (jobsAfter t s (turn t s) said (turn t s .runner)) (turn t s) (endingOf t s (turn t s) said (turn t s .runner))
-  report-taken h = fair .done h
-
-  pub report-in-time : report t s said .number ≡ 0 → late (report t s said .state) ≡ false
-  report-in-time h = fair .in-time h

@@ -1,7 +1,7 @@
 use mathlib.Core.Path.{sym, ap, _∙_}
 use Rattle.choice.specs.declared.Turn.{Turn}
 use Rattle.choice.proofs.Laws.Runner.{runner-below}
-use Rattle.report.proofs.Laws.Jobs.{report-as}
+use Rattle.report.proofs.Laws.Answers.{report-as}
 use borrow.Author.Needs.{needs}
 use Rattle.report.proofs.report.Statement.{statement}
 use Rattle.report.proofs.report.Tie as tie

@@ -1,11 +1,43 @@
 -- A fresh start. Assumes nothing.
-use mathlib.Core.Path.{_≡_}
+use Prim.Native.Nat.{ℕ, _<_}
+use mathlib.Core.Path.{_≡_, refl}
+use native.Mathlib.Decide.{decLt}
+use native.Mathlib.Omega.{arith}
+use lib.ListN.{length, List·getD-eq-default}
 use borrow.Author.Tests.{eq-eqb, ne-eqb}
 use Rattle.units.specs.declared.Tick.{Tick}
 use Rattle.units.specs.Clock.{tick}
+use Rattle.units.specs.Folds.{listed}
+use Rattle.units.proofs.Laws.Folds.{listed-at, listed-length}
 use Rattle.table.specs.declared.Table.{Table}
 use Rattle.admission.specs.Admission.{answer, verdict}
-use Rattle.state.specs.State.{empty, passes, fresh}
+use Rattle.state.specs.declared.Half.the-variants.{First}
+use Rattle.state.specs.declared.Mark.the-variants.{Absent}
+use Rattle.state.specs.declared.Runner.the-variants.{Nobody}
+use Rattle.state.specs.declared.State.{State}
+use Rattle.state.specs.State.{noJob, jobAt, empty, passes, fresh}
+
+-- a state of 16 jobs has none past them
+pub no-more : (s : State) (k : ℕ) → length (s .jobs) ≡ 16 → (k < 16 → ⊥) → jobAt s k ≡ noJob
+no-more s k e h = List·getD-eq-default (s .jobs) noJob (omega (arith, h))
+
+-- "no jobs, no waits, no mark"
+module _ (now : Tick) where
+  pub empty-is : empty now ≡ record { tick = now; jobs = listed (λ k. noJob) 16; mark = Absent; half = First; runner = Nobody }
+  unfolding empty
+  empty-is = refl
+
+  pub empty-long : length (empty now .jobs) ≡ 16
+  unfolding empty
+  empty-long = listed-length noJob (λ k. noJob) 16
+
+  pub empty-job : (k : ℕ) → jobAt (empty now) k ≡ noJob
+  unfolding empty
+  empty-job k = go (decLt k 16)
+    where
+      go : Dec (k < 16) → jobAt (empty now) k ≡ noJob
+      go (yes l) = listed-at noJob (λ k. noJob) 16 k l
+      go (no l) = no-more (empty now) k empty-long l
 
 module _ (t : Table) (now : Tick) where
   pub fresh-passed : answer (verdict t) .0 ≡ 0 → fresh t now ≡ record { verdict = verdict t; state = empty now }

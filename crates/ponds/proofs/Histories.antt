@@ -1,0 +1,42 @@
+-- The examples, computed. Assumes nothing.
+use Prim.Native.Nat.{ℕ, zero, suc, _<_}
+use mathlib.Core.Path.{_≡_, refl}
+use native.Mathlib.Omega.{arith}
+use lib.ListN.{length}
+use Rattle.units.specs.Amounts.{given, Up}
+use Rattle.units.specs.Clock as Clock
+use Rattle.units.specs.Folds.{over, sum, largest, smallest, some, all, lowest, first, listed}
+use Rattle.units.specs.Sets.{set, has, with}
+use Rattle.table.specs.Table.{taskAt, takes, users, ceiling, ceilings}
+use Rattle.admission.specs.Admission.{ticksInRound, independentSum, B, synchronizationSum, countInRange, settingInRange, inRange, fault, faultAt, faulty, overloaded, sums, verdict}
+use Rattle.state.specs.State.{empty, passes, fresh}
+use Rattle.state.specs.Order.{place, firstInOrder, lastHolder, heldResources}
+use Rattle.choice.specs.Choice.{blocked, runner, shortestAhead, fastest, inherited, markAt, rules, turn, choice}
+use Rattle.report.specs.Report as Report
+use Rattle.consistency.specs.Consistency.{notPendingFits, pendingFits, startedFits, waitFits, jobFits, unused, positionFits, positionsFit, unchanged, consistent}
+use Rattle.machine.specs.Machine as Machine
+use Rattle.promise.specs.History.{lines, ticksClosed, stepsGiven, section, endsAt, hasEnded}
+use Rattle.ponds.specs.Histories.{refused, P5, rollOver, RollOver}
+use Rattle.ponds.specs.Ponds.{p5}
+use Rattle.ponds.specs.Document003 as Document003
+
+p5-limits : (k : ℕ) → k < 4 → length (taskAt p5 k .limits) ≡ 8
+p5-limits zero l = refl
+p5-limits (suc zero) l = refl
+p5-limits (suc (suc zero)) l = refl
+p5-limits (suc (suc (suc zero))) l = refl
+p5-limits (suc (suc (suc (suc k)))) l = absurd (omega arith)
+
+rollOver-limits : (k : ℕ) → k < 3 → length (taskAt rollOver k .limits) ≡ 8
+rollOver-limits zero l = refl
+rollOver-limits (suc zero) l = refl
+rollOver-limits (suc (suc zero)) l = refl
+rollOver-limits (suc (suc (suc k))) l = absurd (omega arith)
+
+pub computed : P5 × RollOver × Document003.Misses
+unfolding given Up Clock.after Clock.distance over sum largest smallest some all lowest first listed set has with takes users ceiling ceilings ticksInRound independentSum B synchronizationSum countInRange settingInRange inRange fault faultAt faulty overloaded sums verdict empty passes fresh place firstInOrder lastHolder heldResources blocked runner shortestAhead fastest inherited markAt rules turn choice Report.late Report.finished Report.reportRun Report.report notPendingFits pendingFits startedFits waitFits jobFits unused positionFits positionsFit unchanged consistent Machine.release Machine.choose Machine.report lines ticksClosed stepsGiven section endsAt hasEnded refused Document003.blocking Document003.rules Document003.turn Document003.lines Document003.slow
+computed = (
+  record { passed = record { verdict = refl; limits = p5-limits }; tick = refl; taken = refl; waits = refl; runs = refl; ends = refl; refusals = refl },
+  record { passed = record { verdict = refl; limits = rollOver-limits }; position2 = refl; takes = refl; takenSection = refl; position0 = refl; deadline = refl; isTop = refl; isBlocked = refl; inherits = refl; speeds = refl; cutAtLimit = refl; waits = refl; rolls = refl; cutAtBudget = refl },
+  record { stays = refl; differs = refl; before = refl; arrives = refl; deadline = refl; refusals = refl; fast = refl; waits = refl; runs = refl; misses = refl; pending = refl },
+)

@@ -1,0 +1,143 @@
+-- A choice keeps the invariant. Assumes nothing.
+use Prim.Native.Nat.{ℕ, _≤_, _<_}
+use mathlib.Core.Path.{_≡_, refl, sym, ap, _∙_, subst}
+use mathlib.Core.Bool.{true, false≢true}
+use mathlib.Core.Logic.{_≢_}
+use native.Mathlib.Decide.{decLt, ℕ-discrete}
+use native.Mathlib.Omega.{arith}
+use lib.ListN.{length}
+use Rattle.units.specs.Amounts.{given}
+use Rattle.table.specs.declared.Table.{Table}
+use Rattle.table.specs.Table.{taskAt}
+use Rattle.state.specs.declared.Section.{Section}
+use Rattle.state.specs.declared.Half.{Half}
+use Rattle.state.specs.declared.Half.the-variants.{First, Second}
+use Rattle.state.specs.declared.Held.the-variants.{In}
+use Rattle.state.specs.declared.Mark.the-variants.{Absent}
+use Rattle.state.specs.declared.Runner.the-variants as Runs
+use Rattle.state.specs.declared.State.{State}
+use Rattle.state.specs.State.{jobAt}
+use Rattle.state.specs.Order.{noPlace, isPending}
+use Rattle.state.proofs.Laws.Order.{first-le, place-lt}
+use Rattle.choice.specs.declared.Turn.{Turn}
+use Rattle.choice.specs.Choice.{top, turn, begin, choice}
+use Rattle.choice.proofs.Laws.Again.{choice-again}
+use Rattle.choice.proofs.Laws.Choice as Law
+use Rattle.consistency.proofs.Laws.Facts.{Unchanged}
+use Rattle.consistency.proofs.Laws.Middle.{same-again}
+use Rattle.machine.specs.Machine.{midTick, chosen}
+use Rattle.machine.proofs.Laws.Calls as Calls
+use Rattle.promise.specs.History.{choose, answered}
+use Rattle.promise.specs.Promise.{Passed}
+use Rattle.promise.proofs.Core.Choice as CoreChoice
+use Rattle.promise.proofs.Core.View.{Midway, fresh}
+use Rattle.promise.proofs.Edge.View.{tasks, marked, view, JobStands, Stands, inside, below-16}
+use Rattle.promise.proofs.Edge.Choice as Chosen
+use Rattle.promise.proofs.Edge.Invariant.{passes, Good, sees, is-ready}
+use Rattle.promise.proofs.Keep.Made.{chooses, Next, refuses, steady, middle, between}
+
+module _ (t : Table) (passed : Passed t) (s : State) (good : Good t passed s) where
+  -- in mid-tick the state is what the choice made of it
+  abbrev pub picked : State
+  picked = Chosen.chosenState t s
+
+  pub picked-is : choice t s .state ≡ picked
+  picked-is = Law.choice-is t s
+
+  picked-second : Stands t picked → Unchanged t picked
+  picked-second stands =
+      same-again t picked refl (stands .long)
+      (subst (λ (x : State). choice t x .state ≡ x) picked-is (choice-again t s (is-ready t passed s good)))
+
+  picks : Stands t picked → Midway (tasks t) (view t picked) → Good t passed picked
+  picks stands mid = record {
+    stands = stands;
+    mid = mid;
+    first = λ e. absurd (false≢true (sym (ap midTick e)));
+    second = λ e. picked-second stands;
+  }
+
+  -- some job is pending
+  module _ (some : top s < noPlace) where
+    abbrev pub at : ℕ
+    at = Chosen.at t passed s good some
+
+    abbrev pub first : ℕ
+    first = Chosen.first t passed s good some
+
+    pub chosen-as : CoreChoice.Chosen (tasks t) (view t s) (view t picked) at first (given (turn t s .speed))
+    chosen-as = Chosen.chosen t passed s good some
+
+    job-stands : (k : ℕ) → k < t .count → Dec (k ≡ at) → JobStands (taskAt t k) (jobAt picked k)
+    job-stands k l (no e) = rw (Chosen.next-other t passed s good some k e) (good .stands .jobs k l)
+    job-stands k l (yes e) = rw (e, Chosen.next-runner t passed s good some) record {
+      wait = good .stands .jobs at (rw (← e) l) .wait;
+      unstarted = λ h. absurd (false≢true (sym h));
+      section = good .stands .jobs at (rw (← e) l) .section;
+      absent = λ h. absurd (false≢true (sym h ∙ chosen-as .pending));
+    }
+
+    held-from : (k : ℕ) (x : Section) → jobAt picked k .held ≡ In x → jobAt s k .held ≡ In x
+    held-from k x e = sym (Chosen.kept t passed s good some (λ j. j .held) (λ j. refl) k) ∙ e
+
+    at-inside : at < t .count
+    at-inside = inside t (passes t passed) s (good .stands) at (chosen-as .pending)
+
+    picked-stands : Stands t picked
+    picked-stands = record {
+      long = sym (ap (λ (x : State). length (x .jobs)) picked-is) ∙ Law.choice-long t s ∙ good .stands .long;
+      now = good .stands .now;
+      jobs = λ k l. job-stands k l (ℕ-discrete k at);
+      past = λ k l. Chosen.next-other t passed s good some k (λ e. omega (arith, at-inside)) ∙ good .stands .past k l;
+      once = λ i j x y l m e f r. good .stands .once i j x y l m (held-from i x e) (held-from j y f) r;
+      mark = Chosen.mark-fits t passed s good some;
+    }
+
+    picked-good : Good t passed picked
+    picked-good =
+        picks picked-stands
+        (CoreChoice.choose (tasks t) (view t s) (view t picked) (sees t passed s (good .stands)) at first (given (turn t s .speed)) chosen-as (good .mid))
+
+  -- no job is pending
+  module _ (none : noPlace ≤ top s) where
+    pub nobody-pending : (k : ℕ) → jobAt s k .pending ≡ true → ⊥
+    nobody-pending k p =
+        let l = below-16 t (passes t passed) s (good .stands) k p in
+        omega (arith, first-le s isPending k l p, place-lt (s .tick .0) (jobAt s k .deadline .0) k (omega arith))
+
+    -- the same jobs, and no mark
+    abbrev idle-state : State
+    idle-state = record { tick = s .tick; jobs = s .jobs; mark = Absent; half = Second; runner = Runs.Nobody }
+
+    idle-is : picked ≡ idle-state
+    idle-is =
+        ap (λ (u : Turn). record { tick = s .tick; jobs = begin s (u .runner); mark = u .mark; half = Second; runner = u .runner }) (Law.idle-turn t s none)
+
+    idle-stands : Stands t idle-state
+    idle-stands = record {
+      long = good .stands .long;
+      now = good .stands .now;
+      jobs = good .stands .jobs;
+      past = good .stands .past;
+      once = good .stands .once;
+      mark = λ m e. absurd (false≢true (ap marked e));
+    }
+
+    idle-good : Good t passed picked
+    idle-good =
+        picks (subst (Stands t) (sym idle-is) idle-stands)
+        (subst (λ (x : State). Midway (tasks t) (view t x)) (sym idle-is)
+        (fresh (tasks t) (view t idle-state) (sees t passed idle-state idle-stands) nobody-pending .midway))
+
+  pub keep-choose : Next t passed s good choose (answered t s choose)
+  keep-choose = go (s .half) refl
+    where
+      good-pick : Dec (top s < noPlace) → Good t passed picked
+      good-pick (yes l) = picked-good l
+      good-pick (no l) = idle-good (omega arith)
+
+      go : (h : Half) → s .half ≡ h → Next t passed s good choose (answered t s choose)
+      go Second h = refuses t passed s good choose _ 11 (omega arith) (Calls.choose-11 t s (steady t passed s good) (middle t passed s good h))
+      go First h =
+          rw (Calls.choose-runs t s (steady t passed s good) (between t passed s good h))
+          record { kept = rw picked-is (good-pick (decLt (top s) noPlace)); made = chooses refl refl }

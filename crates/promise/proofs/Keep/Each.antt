@@ -1,0 +1,35 @@
+-- Each call keeps the invariant. Assumes nothing.
+use mathlib.Core.Path.{_≡_, refl}
+use native.Mathlib.Omega.{arith}
+use Rattle.table.specs.declared.Table.{Table}
+use Rattle.state.specs.declared.Job.{Job}
+use Rattle.state.specs.declared.Half.{Half}
+use Rattle.state.specs.declared.Half.the-variants.{First, Second}
+use Rattle.state.specs.declared.Report.{Report}
+use Rattle.state.specs.declared.Runner.{Runner}
+use Rattle.state.specs.declared.Runner.the-variants as Runs
+use Rattle.state.specs.declared.State.{State}
+use Rattle.choice.specs.Choice.{turn}
+use Rattle.machine.proofs.Laws.Calls as Calls
+use Rattle.promise.specs.History.{Call, release, choose, report, answered}
+use Rattle.promise.specs.Promise.{Passed}
+use Rattle.promise.proofs.Edge.Invariant.{Good}
+use Rattle.promise.proofs.Keep.Made.{Next, refuses, steady, between}
+use Rattle.promise.proofs.Keep.Release.{keep-release}
+use Rattle.promise.proofs.Keep.Choose.{keep-choose}
+use Rattle.promise.proofs.Keep.Idle.{keep-idle}
+use Rattle.promise.proofs.Keep.Run.{keep-run}
+
+module _ (t : Table) (passed : Passed t) (s : State) (good : Good t passed s) where
+  keep-report : (said : Report) → Next t passed s good (report said) (answered t s (report said))
+  keep-report said = go (s .half) refl (turn t s .runner) refl
+    where
+      go : (h : Half) → s .half ≡ h → (r : Runner) → turn t s .runner ≡ r → Next t passed s good (report said) (answered t s (report said))
+      go First h r e = refuses t passed s good (report said) _ 11 (omega arith) (Calls.report-11 t s (steady t passed s good) said (between t passed s good h))
+      go Second h Runs.Nobody e = keep-idle t passed s good h e said
+      go Second h (Runs.Job p) e = keep-run t passed s good h p e said
+
+  pub keep : (call : Call) → Next t passed s good call (answered t s call)
+  keep (release p) = keep-release t passed s good p
+  keep choose = keep-choose t passed s good
+  keep (report said) = keep-report said

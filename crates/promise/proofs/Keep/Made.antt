@@ -1,0 +1,49 @@
+-- What a call leads to. Assumes nothing.
+use Prim.Native.Nat.{ℕ, _≤_, _<_}
+use mathlib.Core.Path.{_≡_, ap}
+use mathlib.Core.Bool.{true, false}
+use lib.ListN.{set}
+use Rattle.table.specs.declared.Table.{Table}
+use Rattle.state.specs.declared.Job.{Job}
+use Rattle.state.specs.declared.Answer.{Answer}
+use Rattle.state.specs.declared.Half.the-variants.{First, Second}
+use Rattle.state.specs.declared.Report.{Report}
+use Rattle.state.specs.declared.Report.the-variants.{CarryOn}
+use Rattle.state.specs.declared.Runner.the-variants as Runs
+use Rattle.state.specs.declared.State.{State}
+use Rattle.state.specs.State.{jobAt}
+use Rattle.state.specs.Answers.{bare}
+use Rattle.choice.specs.Choice.{turn, choice}
+use Rattle.report.proofs.Laws.Answers.{outcome, taken-answer}
+use Rattle.consistency.specs.Consistency.{consistent}
+use Rattle.machine.specs.Machine.{midTick, releasedAt, chosen}
+use Rattle.promise.specs.History.{Call, release, choose, report}
+use Rattle.promise.specs.Promise.{Passed}
+use Rattle.promise.proofs.Edge.Invariant.{Good, is-consistent}
+
+-- a call is refused, by a number that leaves the promise as it is; or a release, a choice, a tick without a job or a tick of one is made
+pub data Made (t : Table) (s : State) (call : Call) (a : Answer) : Type 0 where
+  refused : (n : ℕ) → (10 ≤ n) × (n ≤ 14) → a ≡ bare n s → Made t s call a
+  takes-on : (p : ℕ) → call ≡ release p → p < t .count → jobAt s p .pending ≡ false → a ≡ bare 0 (releasedAt t s p) → Made t s call a
+  chooses : call ≡ choose → a ≡ chosen (choice t s) → Made t s call a
+  idles : call ≡ report CarryOn → turn t s .runner ≡ Runs.Nobody → ((k : ℕ) → jobAt s k .pending ≡ true → ⊥) → a ≡ taken-answer s (s .jobs) (turn t s) 0 → Made t s call a
+  runs : (p : ℕ) (said : Report) → call ≡ report said → turn t s .runner ≡ Runs.Job p → p < t .count → jobAt s p .pending ≡ true
+      → a ≡ taken-answer s (set (s .jobs) p (outcome t s (turn t s) p said .job)) (turn t s) (outcome t s (turn t s) p said .ending) → Made t s call a
+
+module _ (t : Table) (passed : Passed t) (s : State) (good : Good t passed s) where
+  -- what a call leads to
+  pub record Next (call : Call) (a : Answer) : Type 0 where
+    pub kept : Good t passed (a .state)
+    pub made : Made t s call a
+
+  pub refuses : (call : Call) (a : Answer) (n : ℕ) → (10 ≤ n) × (n ≤ 14) → a ≡ bare n s → Next call a
+  refuses call a n l e = record { kept = rw e good; made = refused n l e }
+
+  pub steady : consistent t s ≡ true
+  steady = is-consistent t passed s good
+
+  pub middle : s .half ≡ Second → midTick (s .half) ≡ true
+  middle h = ap midTick h
+
+  pub between : s .half ≡ First → midTick (s .half) ≡ false
+  between h = ap midTick h

@@ -1,0 +1,5 @@
+pub mod Core
+pub mod Edge
+pub mod Keep
+pub mod History
+pub mod Promise

@@ -1,0 +1,65 @@
+-- The promise: what holds of every history of a table that passes, whatever is called.
+use Prim.Native.Nat.{ℕ, _^_, _≤_, _<_}
+use mathlib.Core.{Path._≡_, Logic._⊎_, Bool.true, Bool.false, List.List, List._∷_, List._++_}
+use lib.ListN.{length}
+use Rattle.table.specs.{declared.Table.Table, Table.taskAt, Table.D, Table.C, Table.limit}
+use Rattle.admission.specs.Admission as Admission
+use Rattle.state.specs.{declared.State.State, declared.Section.Section, declared.Held.the-variants.In, declared.Report.Report, State.jobAt}
+use Rattle.promise.specs.History.{Call, release, report, answered, Line, lines, stateAfter, start, isOwn, ticksClosed, stepsGiven, section, hasEnded}
+
+-- A table whose verdict is 0. (Each task of a table has 8 limits; here, where an array is a list, that has to be said.)
+pub record Passed (t : Table) : Type 0 where
+  pub verdict : Admission.answer (Admission.verdict t) .0 ≡ 0
+  pub limits : (k : ℕ) → k < t .count → length (taskAt t k .limits) ≡ 8
+
+-- A history starts at any tick of 32 bits.
+abbrev pub FromAnyTick : (ℕ → Type 0) → Type 0
+FromAnyTick P = (now : ℕ) → now < 2 ^ 32 → P now
+
+-- The job at k is taken on: after some calls its release is answered 0.
+abbrev pub TakenOn : Table → ℕ → List Call → ℕ → Type 0
+TakenOn t now before k = answered t (stateAfter t (start t now) before) (release k) .number ≡ 0
+
+-- The state that this release hands back; and the lines of the calls since, whatever they are.
+abbrev pub stateTaken : Table → ℕ → List Call → ℕ → State
+stateTaken t now before k = answered t (stateAfter t (start t now) before) (release k) .state
+
+abbrev pub since : Table → ℕ → List Call → ℕ → List Call → List Line
+since t now before k later = lines t (stateTaken t now before k) later
+
+-- 1. At every later place the job has ended; or it is pending still, and fewer than D ticks have closed since it was taken on.
+abbrev pub InTime : Table → Type 0
+InTime t = FromAnyTick λ now. (before : List Call) (k : ℕ) → TakenOn t now before k → (later : List Call)
+    → (hasEnded t k (since t now before k later) ≡ true)
+    ⊎ ((jobAt (stateAfter t (stateTaken t now before k) later) k .pending ≡ true) × (ticksClosed (since t now before k later) < D t k))
+
+-- So with D ticks closed, it has ended.
+abbrev pub Finished : Table → Type 0
+Finished t = FromAnyTick λ now. (before : List Call) (k : ℕ) → TakenOn t now before k → (later : List Call)
+    → D t k ≤ ticksClosed (since t now before k later) → hasEnded t k (since t now before k later) ≡ true
+
+-- 2. Each tick that is given goes to a job that was taken on and has not ended; it finds it below its budget, and below the limit of the section that it is in.
+pub record Below (t : Table) (k : ℕ) (since : List Line) : Type 0 where
+  pub going : hasEnded t k since ≡ false
+  pub budget : stepsGiven t k since < C t k
+  pub limit : (x : Section) → section k since ≡ In x → x .steps .0 < limit (taskAt t k) (x .resource)
+
+abbrev pub WithinLimits : Table → Type 0
+WithinLimits t = FromAnyTick λ now. (calls : List Call) (said : Report) (k : ℕ)
+    → isOwn k (record { call = report said; answer = answered t (stateAfter t (start t now) calls) (report said) }) ≡ true
+    → (before : List Call) × (later : List Call) × (calls ≡ later ++ (release k ∷ before)) × TakenOn t now before k × Below t k (since t now before k later)
+
+-- 3. No call is answered 9, "state not consistent", or 16, "a job still pending after this half would stand at its deadline": "no deadline is kept by a refusal".
+abbrev pub ByNoRefusal : Table → Type 0
+ByNoRefusal t = FromAnyTick λ now. (calls : List Call) (call : Call)
+    → (answered t (stateAfter t (start t now) calls) call .number ≡ 9 → ⊥) × (answered t (stateAfter t (start t now) calls) call .number ≡ 16 → ⊥)
+
+-- The promise: all of this holds of every table that passes. Nothing is assumed of the calls.
+pub record Kept (t : Table) : Type 0 where
+  pub in-time : InTime t
+  pub finished : Finished t
+  pub within-limits : WithinLimits t
+  pub by-no-refusal : ByNoRefusal t
+
+abbrev pub Promise : Type 0
+Promise = (t : Table) → Passed t → Kept t
