@@ -4,7 +4,7 @@ use mathlib.Core.{Bool.Bool, Bool.true, Bool.false, Bool.not, Bool._&&_, Bool.co
 use lib.{ListN.getD, ListN.set, Dec.ltb, Dec.leb, Dec.eqb}
 use Rattle.units.specs.{declared.Ticks.Ticks, Amounts.ticks, Clock.tick, Clock.after, Folds.smallest, Folds.largest, Folds.some}
 use Rattle.table.specs.{declared.Task.Task, declared.Table.Table, Table.taskAt, Table.D, Table.S, Table.ceilings}
-use Rattle.state.specs.{declared.Job.Job, declared.State.State, declared.Held.Held, declared.Held.the-variants.Nothing, declared.Held.the-variants.In, declared.Mark.Mark, declared.Mark.the-variants.Absent, declared.Mark.the-variants.At, declared.Half.the-variants.Second, declared.Runner.Runner, declared.Mode.the-variants.Independent, declared.Mode.the-variants.Synchronization, State.jobAt, Order.place, Order.placeAt, Order.positionOf, Order.noPlace, Order.isPending, Order.isStarted, Order.firstInOrder, Order.lastHolder}
+use Rattle.state.specs.{declared.Job.Job, declared.State.State, declared.Held.Held, declared.Held.the-variants.Nothing, declared.Held.the-variants.In, declared.Place.Place, declared.Mark.Mark, declared.Mark.the-variants.Absent, declared.Mark.the-variants.At, declared.Half.the-variants.Second, declared.Runner.Runner, declared.Mode.the-variants.Independent, declared.Mode.the-variants.Synchronization, State.jobAt, Order.place, Order.placeAt, Order.positionOf, Order.noPlace, Order.isPending, Order.isStarted, Order.firstInOrder, Order.lastHolder}
 use Rattle.choice.specs.{declared.Turn.Turn, declared.Choice.Choice}
 use Rattle.state.specs.declared.Runner.the-variants as Runs
 
@@ -48,27 +48,36 @@ markPlace now (At m) = place now (m .deadline .0) (m .position)
 unfoldable pub markAt : ℕ → ℕ → Mark
 markAt now at = At (record { deadline = tick (after now (at / 256)); position = positionOf at })
 
--- 3. "A mark stands and the runner is the marked job or behind it: mark removed, independent, speed I." 4. "A mark stands: synchronization, speed S." 5. "Independent, speed I."
-abbrev pub noHolderBehind : Mark → ℕ → ℕ → Task → Turn
-noHolderBehind Absent old run task = record { runner = Runs.Job (positionOf run); mark = Absent; mode = Independent; speed = task .independent }
-noHolderBehind (At m) old run task =
-    cond (leb old run)
-    (record { runner = Runs.Job (positionOf run); mark = Absent; mode = Independent; speed = task .independent })
-    (record { runner = Runs.Job (positionOf run); mark = At m; mode = Synchronization; speed = task .synchronization })
+-- what a rule gives: "synchronization", with a mark and a speed; or "mark removed, independent, speed I"
+abbrev pub synchronized : ℕ → Mark → ℕ → Turn
+synchronized run mark speed = record { runner = Runs.Job (positionOf run); mark = mark; mode = Synchronization; speed = speed }
 
--- "Then, first that fits": 1. "Runner is not top: synchronization. The mark becomes the last in order among the old mark, the runner, and any holders behind the runner."
+abbrev pub alone : ℕ → Task → Turn
+alone run task = record { runner = Runs.Job (positionOf run); mark = Absent; mode = Independent; speed = task .independent }
+
+-- 1. "Runner is not top: synchronization. The mark becomes the last in order among the old mark, the runner, and any holders behind the runner." Its speed is inherited.
+abbrev pub rule1 : Table → State → ℕ → Turn
+rule1 t s run = synchronized run (markAt (s .tick .0) (max (markPlace (s .tick .0) (s .mark)) (max run (lastHolder s run)))) (inherited t s run)
+
 -- 2. "Some job behind the runner holds a resource: synchronization, the mark becomes the last in order among the old mark and those holders; speed S of the runner."
+abbrev pub rule2 : Table → State → ℕ → Turn
+rule2 t s run = synchronized run (markAt (s .tick .0) (max (markPlace (s .tick .0) (s .mark)) (lastHolder s run))) (S t (positionOf run))
+
+-- 4. "A mark stands: synchronization, speed S."
+abbrev pub rule4 : ℕ → Place → Task → Turn
+rule4 run m task = synchronized run (At m) (task .synchronization)
+
+-- 3. "A mark stands and the runner is the marked job or behind it: mark removed, independent, speed I."; else 4; and 5. "Independent, speed I."
+abbrev pub noHolderBehind : Mark → ℕ → ℕ → Task → Turn
+noHolderBehind Absent old run task = alone run task
+noHolderBehind (At m) old run task = cond (leb old run) (alone run task) (rule4 run m task)
+
+-- "Then, first that fits"
 unfoldable pub rules : Table → State → ℕ → Turn
 rules t s run =
-    let now = s .tick .0 in
-    let old = markPlace now (s .mark) in
-    let last = lastHolder s run in
-    let task = taskAt t (positionOf run) in
-    cond (not (eqb run (top s)))
-    (record { runner = Runs.Job (positionOf run); mark = markAt now (max old (max run last)); mode = Synchronization; speed = inherited t s run })
-    (cond (ltb 0 last)
-    (record { runner = Runs.Job (positionOf run); mark = markAt now (max old last); mode = Synchronization; speed = task .synchronization })
-    (noHolderBehind (s .mark) old run task))
+    cond (not (eqb run (top s))) (rule1 t s run)
+    (cond (ltb 0 (lastHolder s run)) (rule2 t s run)
+    (noHolderBehind (s .mark) (markPlace (s .tick .0) (s .mark)) run (taskAt t (positionOf run))))
 
 -- "With no pending job the processor idles: independent, speed 0, mark removed."
 abbrev pub idle : Turn

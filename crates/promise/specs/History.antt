@@ -92,33 +92,23 @@ section k (line ∷ before) = cond (isOwn k line) (afterCall (line .call) (longe
 
 -- ---- it has ended
 
-abbrev pub isDone : Call → Bool
-isDone (release k) = false
-isDone choose = false
-isDone (report CarryOn) = false
-isDone (report Done) = true
-isDone (report (Take r)) = false
-isDone (report Give) = false
-
-abbrev pub isCarryOn : Call → Bool
-isCarryOn (release k) = false
-isCarryOn choose = false
-isCarryOn (report CarryOn) = true
-isCarryOn (report Done) = false
-isCarryOn (report (Take r)) = false
-isCarryOn (report Give) = false
-
 -- the steps in its section have reached the limit
 abbrev pub reached : Table → ℕ → Held → Bool
 reached t k Nothing = false
 reached t k (In x) = leb (limit (taskAt t k) (x .resource)) (x .steps .0)
 
--- at a tick of its own: it reported done; or the steps given are its whole budget; or it carried on with its section's limit reached
+-- it reported done, or it carried on with its section's limit reached
+abbrev pub isLast : Table → ℕ → Call → Held → Bool
+isLast t k (release p) h = false
+isLast t k choose h = false
+isLast t k (report CarryOn) h = reached t k h
+isLast t k (report Done) h = true
+isLast t k (report (Take r)) h = false
+isLast t k (report Give) h = false
+
+-- at a tick of its own: the steps given are its whole budget, or the report was such
 unfoldable pub endsAt : Table → ℕ → Line → List Line → Bool
-endsAt t k line before =
-    isOwn k line
-    && (isDone (line .call)
-    || (eqb (stepsGiven t k (line ∷ before)) (C t k) || (isCarryOn (line .call) && reached t k (section k (line ∷ before)))))
+endsAt t k line before = isOwn k line && (eqb (stepsGiven t k (line ∷ before)) (C t k) || isLast t k (line .call) (section k (line ∷ before)))
 
 unfoldable pub hasEnded : Table → ℕ → List Line → Bool
 hasEnded t k [] = false

@@ -1,7 +1,7 @@
 -- L6: making the choice again changes nothing. Assumes nothing.
 use Prim.Native.Nat.{ℕ, max, _≤_, _<_}
 use mathlib.Core.Path.{_≡_, refl, sym, ap, ap₂, _∙_}
-use mathlib.Core.Bool.{Bool, true, false, not, _&&_}
+use mathlib.Core.Bool.{Bool, true, false, _&&_}
 use lib.ListN.{getD, set, List·getD-map}
 use lib.Seq.{map-set-same, set-getD, set-set, getD-set-same}
 use lib.Dec.{ltb}
@@ -13,16 +13,16 @@ use Rattle.table.specs.Table.{D, taskAt}
 use Rattle.state.specs.declared.Job.{Job}
 use Rattle.state.specs.declared.State.{State}
 use Rattle.state.specs.declared.Mark.{Mark}
-use Rattle.state.specs.declared.Mark.the-variants.{Absent}
+use Rattle.state.specs.declared.Mark.the-variants.{Absent, At}
 use Rattle.state.specs.declared.Half.the-variants.{Second}
 use Rattle.state.specs.declared.Runner.{Runner}
 use Rattle.state.specs.declared.Runner.the-variants as Runs
 use Rattle.state.specs.State.{noJob, jobAt}
 use Rattle.state.specs.Order.{place, placeAt, positionOf, noPlace, isHolder, firstInOrder, lastHolder}
 use Rattle.choice.specs.declared.Turn.{Turn}
-use Rattle.choice.specs.Choice.{top, blocked, runner, shortestAhead, fastest, inherited, markPlace, markAt, rules, idle, turn, begun, choice}
+use Rattle.choice.specs.Choice.{synchronized, alone, top, blocked, runner, shortestAhead, fastest, inherited, markPlace, markAt, rules, turn, begun, choice}
 use Rattle.choice.proofs.Laws.Ready.{Ready, runs-started}
-use Rattle.choice.proofs.Laws.Rules.{given, alone, rule-1, rule-2, rule-3, rule-4, rule-5, Fits, one, two, three, four, five, fits}
+use Rattle.choice.proofs.Laws.Rules.{rule-1, rule-2, rule-3, rule-4, rule-5, Fits, one, two, three, four, five, fits}
 use Rattle.choice.proofs.Laws.Runner.{runner-free, turn-runs, turn-idle}
 use Rattle.choice.proofs.Laws.Choice.{runner-is, runner-below-16, Stands, stands-1, stands-2}
 
@@ -114,7 +114,7 @@ module _ (t : Table) (s : State) (ready : Ready t s) (some : top s < noPlace) wh
   stays : {k : ℕ} → Stands t s ready some k → markPlace (s .tick .0) (turn t s .mark) ≡ k
   stays w = ap (markPlace (s .tick .0)) (w .is) ∙ w .place
 
-  absent : turn t s ≡ alone t s run → turn t s .mark ≡ Absent
+  absent : turn t s ≡ alone run (taskAt t (positionOf run)) → turn t s .mark ≡ Absent
   absent e = ap (λ (u : Turn). u .mark) e
 
   rules-again : rules t next run ≡ rules t s run
@@ -133,17 +133,17 @@ module _ (t : Table) (s : State) (ready : Ready t s) (some : top s < noPlace) wh
       go (one h) =
           let k = stays (stands-1 t s ready some h) in
           let e : max (markPlace now (turn t s .mark)) (max run (lastHolder next run)) ≡ max old (max run (lastHolder s run)) = omega (arith, lasts) in
-          rule-1 t next run (λ q. h (q ∙ tops)) ∙ ap₂ (λ (k v : ℕ). given t s run (markAt now k) v) e (same-inherited t s at (turn t s .mark) (Runs.Job at) run) ∙ sym (rule-1 t s run h)
+          rule-1 t next run (λ q. h (q ∙ tops)) ∙ ap₂ (λ (k v : ℕ). synchronized run (markAt now k) v) e (same-inherited t s at (turn t s .mark) (Runs.Job at) run) ∙ sym (rule-1 t s run h)
       go (two h l) =
           let k = stays (stands-2 t s ready some h l) in
           let e : max (markPlace now (turn t s .mark)) (lastHolder next run) ≡ max old (lastHolder s run) = omega (arith, lasts) in
-          rule-2 t next run (h ∙ sym tops) (omega (arith, lasts)) ∙ ap (λ (k : ℕ). given t s run (markAt now k) (taskAt t at .synchronization)) e ∙ sym (rule-2 t s run h l)
+          rule-2 t next run (h ∙ sym tops) (omega (arith, lasts)) ∙ ap (λ (k : ℕ). synchronized run (markAt now k) (taskAt t at .synchronization)) e ∙ sym (rule-2 t s run h l)
       go (three m h l e b) =
           let q = rule-3 t s run m h l e b in rule-5 t next run (h ∙ sym tops) (omega (arith, lasts)) (absent (runs ∙ q)) ∙ sym q
       go (four m h l e b) =
           let q = rule-4 t s run m h l e b in
-          let k : turn t s .mark ≡ s .mark = ap (λ (u : Turn). u .mark) (runs ∙ q) in
-          rule-4 t next run m (h ∙ sym tops) (omega (arith, lasts)) (k ∙ e) (rw k b) ∙ ap (λ (n : Mark). given t s run n (taskAt t at .synchronization)) k ∙ sym q
+          let k : turn t s .mark ≡ At m = ap (λ (u : Turn). u .mark) (runs ∙ q) in
+          rule-4 t next run m (h ∙ sym tops) (omega (arith, lasts)) k (rw (k ∙ sym e) b) ∙ sym q
       go (five h l e) =
           let q = rule-5 t s run h l e in rule-5 t next run (h ∙ sym tops) (omega (arith, lasts)) (absent (runs ∙ q)) ∙ sym q
 

@@ -14,7 +14,7 @@ use Rattle.units.specs.Clock.{tick, after, distance}
 use Rattle.units.proofs.Laws.Clock.{distance-after}
 use Rattle.units.proofs.Laws.Folds.{both}
 use Rattle.table.specs.declared.Table.{Table}
-use Rattle.table.specs.Table.{D, I, S}
+use Rattle.table.specs.Table.{taskAt, D, I, S}
 use Rattle.state.specs.declared.State.{State}
 use Rattle.state.specs.declared.Place.{Place}
 use Rattle.state.specs.declared.Mark.{Mark}
@@ -26,9 +26,9 @@ use Rattle.state.specs.State.{noJob, jobAt}
 use Rattle.state.specs.Order.{place, placeAt, positionOf, noPlace, isHolder, holdsAny, lastHolder}
 use Rattle.state.proofs.Laws.Order.{place-distance, place-position, last-bounds, last-found}
 use Rattle.choice.specs.declared.Turn.{Turn}
-use Rattle.choice.specs.Choice.{top, runner, rules, idle, turn, begun, begin, choice, markPlace, markAt}
+use Rattle.choice.specs.Choice.{synchronized, alone, top, runner, rules, idle, turn, begun, begin, choice, markPlace, markAt}
 use Rattle.choice.proofs.Laws.Ready.{Ready, runs-at, runs-position}
-use Rattle.choice.proofs.Laws.Rules.{mark-back, given, alone, rule-1, rule-2, rule-3, rule-4, rule-5, Fits, one, two, three, four, five, fits, rules-runner}
+use Rattle.choice.proofs.Laws.Rules.{mark-back, rule-1, rule-2, rule-3, rule-4, rule-5, Fits, one, two, three, four, five, fits, rules-runner}
 use Rattle.choice.proofs.Laws.Runner.{turn-runs, turn-idle}
 use Rattle.choice.proofs.Laws.Speed.{inherited-own, inherited-between}
 
@@ -195,7 +195,7 @@ module _ (t : Table) (s : State) (ready : Ready t s) (some : top s < noPlace) wh
     pub position : mark .position < t .count
     pub ahead : distance now (mark .deadline .0) ≤ 65535
 
-  stands : (k v : ℕ) → Good t k → rules t s run ≡ given t s run (markAt now k) v → Stands k
+  stands : (k v : ℕ) → Good t k → rules t s run ≡ synchronized run (markAt now k) v → Stands k
   unfolding markAt
   stands k v g e = record {
     mark = record { deadline = tick (after now (k / 256)); position = positionOf k };
@@ -251,7 +251,7 @@ module _ (t : Table) (s : State) (ready : Ready t s) (some : top s < noPlace) wh
     where-to = old;
     stands = record {
       mark = m;
-      is = of (λ u. u .mark ≡ At m) (rule-4 t s run m h l e b) e;
+      is = of (λ u. u .mark ≡ At m) (rule-4 t s run m h l e b) refl;
       place = ap (markPlace now) (sym e);
       position = ready .marked m e .0;
       ahead = ready .marked m e .1;
@@ -263,10 +263,10 @@ module _ (t : Table) (s : State) (ready : Ready t s) (some : top s < noPlace) wh
   }
 
   -- L7: a mark that stands afterwards is such a mark; else the runner has its own I
-  pub marked-or-alone : Marked ⊎ (turn t s ≡ alone t s run)
+  pub marked-or-alone : Marked ⊎ (turn t s ≡ alone run (taskAt t (positionOf run)))
   marked-or-alone = go (fits t s run)
     where
-      go : Fits t s run → Marked ⊎ (turn t s ≡ alone t s run)
+      go : Fits t s run → Marked ⊎ (turn t s ≡ alone run (taskAt t (positionOf run)))
       go (one h) = inl (by-rule-1 h)
       go (two h l) = inl (by-rule-2 h l)
       go (three m h l e b) = inr (runs ∙ rule-3 t s run m h l e b)

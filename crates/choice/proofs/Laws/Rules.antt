@@ -1,5 +1,5 @@
 -- The five rules, one equation each, and the mark that they leave. Assumes nothing.
-use Prim.Native.Nat.{ℕ, _/_, _^_, max, _≤_, _<_}
+use Prim.Native.Nat.{ℕ, _/_, _^_, _≤_, _<_}
 use mathlib.Core.Path.{_≡_, refl, ap, _∙_}
 use native.Mathlib.Omega.{arith}
 use native.Mathlib.Decide.{decLe, ℕ-discrete}
@@ -11,11 +11,10 @@ use Rattle.state.specs.declared.State.{State}
 use Rattle.state.specs.declared.Mark.{Mark}
 use Rattle.state.specs.declared.Mark.the-variants.{Absent, At}
 use Rattle.state.specs.declared.Place.{Place}
-use Rattle.state.specs.declared.Mode.the-variants.{Independent, Synchronization}
 use Rattle.state.specs.declared.Runner.the-variants as Runs
 use Rattle.state.specs.Order.{place, positionOf, noPlace, lastHolder}
 use Rattle.choice.specs.declared.Turn.{Turn}
-use Rattle.choice.specs.Choice.{top, inherited, markPlace, markAt, noHolderBehind, rules}
+use Rattle.choice.specs.Choice.{top, markPlace, markAt, alone, rule1, rule2, rule4, noHolderBehind, rules}
 
 -- a mark made of a place stands at that place
 pub mark-back : (now k : ℕ) → now < 2 ^ 32 → k < noPlace → markPlace now (markAt now k) ≡ k
@@ -32,18 +31,11 @@ module _ (t : Table) (s : State) (run : ℕ) where
   abbrev last : ℕ
   last = lastHolder s run
 
-  -- what a rule gives
-  abbrev pub given : Mark → ℕ → Turn
-  given m v = record { runner = Runs.Job (positionOf run); mark = m; mode = Synchronization; speed = v }
-
-  abbrev pub alone : Turn
-  alone = record { runner = Runs.Job (positionOf run); mark = Absent; mode = Independent; speed = taskAt t (positionOf run) .independent }
-
-  pub rule-1 : (run ≡ top s → ⊥) → rules t s run ≡ given (markAt now (max old (max run last))) (inherited t s run)
+  pub rule-1 : (run ≡ top s → ⊥) → rules t s run ≡ rule1 t s run
   unfolding rules
   rule-1 h = simp (ne-eqb _ _ h)
 
-  pub rule-2 : run ≡ top s → 0 < last → rules t s run ≡ given (markAt now (max old last)) (taskAt t (positionOf run) .synchronization)
+  pub rule-2 : run ≡ top s → 0 < last → rules t s run ≡ rule2 t s run
   unfolding rules
   rule-2 h l = simp (eq-eqb _ _ h, lt-ltb _ _ l)
 
@@ -51,22 +43,22 @@ module _ (t : Table) (s : State) (run : ℕ) where
   unfolding rules
   others h l = simp (eq-eqb _ _ h, le-ltb _ _ l)
 
-  pub rule-3 : (m : Place) → run ≡ top s → last ≤ 0 → s .mark ≡ At m → old ≤ run → rules t s run ≡ alone
+  pub rule-3 : (m : Place) → run ≡ top s → last ≤ 0 → s .mark ≡ At m → old ≤ run → rules t s run ≡ alone run (taskAt t (positionOf run))
   rule-3 m h l e b = others h l ∙ past (s .mark) e b
     where
-      past : (n : Mark) → n ≡ At m → markPlace now n ≤ run → noHolderBehind n (markPlace now n) run (taskAt t (positionOf run)) ≡ alone
+      past : (n : Mark) → n ≡ At m → markPlace now n ≤ run → noHolderBehind n (markPlace now n) run (taskAt t (positionOf run)) ≡ alone run (taskAt t (positionOf run))
       past n e b = rw e (simp (le-leb _ _ (rw e at b)))
 
-  pub rule-4 : (m : Place) → run ≡ top s → last ≤ 0 → s .mark ≡ At m → run < old → rules t s run ≡ given (s .mark) (taskAt t (positionOf run) .synchronization)
+  pub rule-4 : (m : Place) → run ≡ top s → last ≤ 0 → s .mark ≡ At m → run < old → rules t s run ≡ rule4 run m (taskAt t (positionOf run))
   rule-4 m h l e b = others h l ∙ ahead (s .mark) e b
     where
-      ahead : (n : Mark) → n ≡ At m → run < markPlace now n → noHolderBehind n (markPlace now n) run (taskAt t (positionOf run)) ≡ given n (taskAt t (positionOf run) .synchronization)
+      ahead : (n : Mark) → n ≡ At m → run < markPlace now n → noHolderBehind n (markPlace now n) run (taskAt t (positionOf run)) ≡ rule4 run m (taskAt t (positionOf run))
       ahead n e b = rw e (simp (lt-leb _ _ (rw e at b)))
 
-  pub rule-5 : run ≡ top s → last ≤ 0 → s .mark ≡ Absent → rules t s run ≡ alone
+  pub rule-5 : run ≡ top s → last ≤ 0 → s .mark ≡ Absent → rules t s run ≡ alone run (taskAt t (positionOf run))
   rule-5 h l e = others h l ∙ none (s .mark) e
     where
-      none : (n : Mark) → n ≡ Absent → noHolderBehind n (markPlace now n) run (taskAt t (positionOf run)) ≡ alone
+      none : (n : Mark) → n ≡ Absent → noHolderBehind n (markPlace now n) run (taskAt t (positionOf run)) ≡ alone run (taskAt t (positionOf run))
       none n e = rw e
 
   -- first that fits

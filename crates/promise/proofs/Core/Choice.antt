@@ -1,4 +1,4 @@
--- The laws of the choice, and that a choice keeps the invariant.
+-- What the proof asks of a choice, and that such a choice keeps the invariant. Assumes nothing.
 use mathlib.Core.Path.{_≡_, sym, _∙_, ap, subst}
 use mathlib.Core.Bool.{true, false}
 use mathlib.Core.Logic.{_⊎_, inl, inr, _≢_}
@@ -14,13 +14,13 @@ use Rattle.promise.proofs.Core.View.{View, Lawful, Numbers, early, asks
 abbrev pub Free : Tasks → View → ℕ → Type 0
 Free tasks v top = (g : ℕ) → v .pending g ≡ true → g ≢ top → v .left g (tasks .D top) ≡ 0
 
--- top is not started, g holds what it may need, and r is the first started job
+-- top is not started, a holder has what it may need, and r is the first started job
 pub record Blocked (tasks : Tasks) (v : View) (r top : ℕ) : Type 0 where
   pub fresh : v .started top ≡ false
-  pub g : ℕ
-  pub g-pend : v .pending g ≡ true
-  pub g-other : g ≢ top
-  pub g-holds : 1 ≤ v .left g (tasks .D top)
+  pub holder : ℕ
+  pub holder-pending : v .pending holder ≡ true
+  pub holder-other : holder ≢ top
+  pub holder-left : 1 ≤ v .left holder (tasks .D top)
   pub started : v .started r ≡ true
   pub first : (f : ℕ) → v .started f ≡ true → (f ≡ r) ⊎ v .before r f
 
@@ -32,9 +32,9 @@ pub record Marked (tasks : Tasks) (v u : View) (r top steps : ℕ) : Type 0 wher
   pub holders : (b : ℕ) → v .holds b ≡ true → v .before r b → v .distance b ≤ u .markDistance
   pub runner : r ≢ top → v .distance r ≤ u .markDistance
 
--- The choice, from v to u: r runs, at steps steps a tick.
+-- The choice, from v to u: r runs, and its tick gives `steps`.
 pub record Chosen (tasks : Tasks) (v u : View) (r top steps : ℕ) : Type 0 where
-  -- L1
+  -- the runner is pending; it is started afterwards, and nothing else changes
   pub pending : v .pending r ≡ true
   pub started : u .started r ≡ true
   pub same-started : (k : ℕ) → k ≢ r → u .started k ≡ v .started k
@@ -45,16 +45,16 @@ pub record Chosen (tasks : Tasks) (v u : View) (r top steps : ℕ) : Type 0 wher
   pub same-wait : (k : ℕ) → u .wait k ≡ v .wait k
   pub same-left : (k x : ℕ) → u .left k x ≡ v .left k x
   pub same-before : (j k : ℕ) → u .before j k → v .before j k
-  -- L2
-  pub top-pend : v .pending top ≡ true
+  -- it is top, and top is started or nobody is in its way; or top is blocked, and it is the first started job
+  pub top-pending : v .pending top ≡ true
   pub top-first : (j : ℕ) → v .pending j ≡ true → (j ≡ top) ⊎ v .before top j
   pub who : ((r ≡ top) × ((v .started top ≡ true) ⊎ Free tasks v top)) ⊎ Blocked tasks v r top
-  -- L3
+  -- the tick gives no less than one at I
   pub slow : tasks .I r ≤ steps
-  -- L4
+  -- over a holder, over the mark, or not top: it gives no less than one at S, and a mark stands afterwards that is not before any of these
   pub marked : (r ≢ top) ⊎ (((b : ℕ) × (v .holds b ≡ true) × v .before r b) ⊎ ((v .mark ≡ true) × (v .distance r < v .markDistance))) →
       Marked tasks v u r top steps
-  -- L5
+  -- not top: it gives no less than one at S of any task between a job ahead and the runner
   pub fast : r ≢ top → (j level : ℕ) → v .pending j ≡ true → v .before j r → level < tasks .count → tasks .D j ≤ tasks .D level → tasks .D level ≤ tasks .D r → tasks .S level ≤ steps
 
 module _ (tasks : Tasks) (v u : View) (l : Lawful tasks v) (r top steps : ℕ) (chosen : Chosen tasks v u r top steps) where
@@ -64,15 +64,15 @@ module _ (tasks : Tasks) (v u : View) (l : Lawful tasks v) (r top steps : ℕ) (
     where
       at : (j ≡ top) ⊎ v .before top j → v .distance top ≤ v .distance j
       at (inl e) = omega (arith, ap (v .distance) e)
-      at (inr o) = l .near top j (chosen .top-pend) p o
+      at (inr o) = l .near top j (chosen .top-pending) p o
 
   -- nothing is before top
   pub none-before : (j : ℕ) → v .pending j ≡ true → v .before j top → ⊥
   none-before j p o = at (chosen .top-first j p)
     where
       at : (j ≡ top) ⊎ v .before top j → ⊥
-      at (inl e) = let z : v .before top top = subst (λ x. v .before x top) e o in l .once top top (chosen .top-pend) (chosen .top-pend) z z
-      at (inr z) = l .once j top p (chosen .top-pend) o z
+      at (inl e) = let z : v .before top top = subst (λ x. v .before x top) e o in l .once top top (chosen .top-pending) (chosen .top-pending) z z
+      at (inr z) = l .once j top p (chosen .top-pending) o z
 
   -- the runner is the first started job, once it is started
   pub runner-first : (f : ℕ) → u .started f ≡ true → v .pending f ≡ true → (f ≡ r) ⊎ v .before r f
@@ -103,7 +103,7 @@ module _ (tasks : Tasks) (v u : View) (l : Lawful tasks v) (r top steps : ℕ) (
     where
       at : (v .started b ≡ true) ⊎ ((b ≡ top) × Free tasks v top) → v .pending b ≡ true
       at (inl s) = l .started-pending b s
-      at (inr w) = ap (v .pending) (w .0) ∙ chosen .top-pend
+      at (inr w) = ap (v .pending) (w .0) ∙ chosen .top-pending
 
   -- who is not started was not
   not-yet : (j : ℕ) → u .started j ≡ false → v .started j ≡ false

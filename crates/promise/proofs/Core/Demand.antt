@@ -1,4 +1,4 @@
--- What one task can still ask for, as numbers alone.
+-- What one task can still ask for, as numbers alone. Assumes nothing.
 use mathlib.Core.Path.{_≡_, refl, sym, _∙_}
 use mathlib.Core.Bool.{Bool, true, false, true≢false}
 use mathlib.Core.Logic.{_⊎_, inl, inr}
@@ -15,7 +15,7 @@ true-or-false false = inr refl
 pub clash : {A : Type 0} {b : Bool} → b ≡ true → b ≡ false → A
 clash p q = absurd (true≢false (sym p ∙ q))
 
--- x where true-or-false holds, else nothing
+-- x where both hold, else nothing
 abbrev pick : {A : Type 0} → Bool → Dec A → ℕ → ℕ
 pick true (yes l) x = x
 pick true (no l) x = 0

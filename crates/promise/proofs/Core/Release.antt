@@ -1,4 +1,4 @@
--- A release keeps the invariant.
+-- A release keeps the invariant: what a task may ask for does not change, and a job that is due first finds the room that the tests left. Assumes nothing.
 use mathlib.Core.Path.{_≡_, refl, sym, _∙_, ap, subst}
 use mathlib.Core.Bool.{true, false}
 use mathlib.Core.Logic.{_⊎_, inl, inr, _≢_}
@@ -206,7 +206,7 @@ module _ (tasks : Tasks) (fits : Fits tasks) (v u : View) (l : Lawful tasks v) (
         beyond = beyond-on h (e .beyond);
       })
 
-  -- the new job, ahead of a started one, has the shorter length
+  -- the new job, ahead of a started one, has the shorter D
   keep-shorter : Shorter tasks u
   keep-shorter j f p q t o =
       each (λ k. u .started k ≡ false → u .before k f → tasks .D k < tasks .D f) new (λ k s a b. there k s a b) j p q o

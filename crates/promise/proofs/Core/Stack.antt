@@ -1,4 +1,4 @@
--- What the stack of started jobs tells: who blocks, and that no wanted resource is held.
+-- What the stack of started jobs tells: who blocks, and that nobody holds what the runner may take. Assumes nothing.
 use mathlib.Core.Path.{_≡_, refl, _∙_, ap, subst}
 use mathlib.Core.Bool.{true}
 use mathlib.Core.Logic.{_⊎_, inl, inr, _≢_}
@@ -10,7 +10,7 @@ use Rattle.promise.proofs.Core.View.{View, Lawful, Shorter, Clear, Midw
 use Rattle.promise.proofs.Core.Choice.{Blocked, Chosen, runner-first}
 
 module _ (tasks : Tasks) (v u : View) (l : Lawful tasks v) (r top steps : ℕ) (chosen : Chosen tasks v u r top steps) where
-  -- a blocked top is before the runner, and its length is shorter
+  -- a blocked top is before the runner, and its D is shorter
   pub ahead : Blocked tasks v r top → v .before top r
   ahead w = at (chosen .top-first r (chosen .pending))
     where
@@ -19,27 +19,27 @@ module _ (tasks : Tasks) (v u : View) (l : Lawful tasks v) (r top steps : ℕ) (
       at (inr o) = o
 
   pub shorter : Shorter tasks v → Blocked tasks v r top → tasks .D top < tasks .D r
-  shorter n w = n top r (chosen .top-pend) (w .fresh) (w .started) (ahead w)
+  shorter n w = n top r (chosen .top-pending) (w .fresh) (w .started) (ahead w)
 
   -- the runner is who blocks
-  pub who-blocks : Shorter tasks v → Clear tasks v → (w : Blocked tasks v r top) → w .g ≡ r
-  who-blocks n k w = at (w .first (w .g) started)
+  pub who-blocks : Shorter tasks v → Clear tasks v → (w : Blocked tasks v r top) → w .holder ≡ r
+  who-blocks n k w = at (w .first (w .holder) started)
     where
-      started : v .started (w .g) ≡ true
-      started = l .holds-started (w .g) (l .left-holds (w .g) (tasks .D top) (w .g-holds))
+      started : v .started (w .holder) ≡ true
+      started = l .holds-started (w .holder) (l .left-holds (w .holder) (tasks .D top) (w .holder-left))
 
-      at : (w .g ≡ r) ⊎ v .before r (w .g) → w .g ≡ r
+      at : (w .holder ≡ r) ⊎ v .before r (w .holder) → w .holder ≡ r
       at (inl e) = e
       at (inr o) =
           absurd
           (omega (
             arith,
-            w .g-holds,
-            l .left-level (w .g) (tasks .D top) (tasks .D r) (omega (arith, shorter n w)) (k r (w .g) (w .started) started o),
+            w .holder-left,
+            l .left-level (w .holder) (tasks .D top) (tasks .D r) (omega (arith, shorter n w)) (k r (w .holder) (w .started) started o),
           ))
 
   pub runner-blocks : Shorter tasks v → Clear tasks v → (w : Blocked tasks v r top) → 1 ≤ v .left r (tasks .D top)
-  runner-blocks n k w = subst (λ x. 1 ≤ v .left x (tasks .D top)) (who-blocks n k w) (w .g-holds)
+  runner-blocks n k w = subst (λ x. 1 ≤ v .left x (tasks .D top)) (who-blocks n k w) (w .holder-left)
 
 -- number 15: in mid-tick no other job holds what the runner may take
 pub no-15 : (tasks : Tasks) (v : View) (l : Lawful tasks v) (r top steps : ℕ) → Chosen tasks v v r top steps → Midway tasks v →

@@ -1,4 +1,4 @@
--- A report keeps the invariant: from mid-tick to the next tick.
+-- A tick keeps the invariant: the room within h + 1 before it is room within h after it. Assumes nothing.
 use mathlib.Core.Path.{_≡_, refl, sym, _∙_, ap, subst}
 use mathlib.Core.Bool.{true}
 use mathlib.Core.Logic.{_⊎_, inl, inr, _≢_}
@@ -14,7 +14,7 @@ use Rattle.promise.proofs.Core.View.{View, Lawful, Numbers, early, asks
 use Rattle.promise.proofs.Core.Choice.{Free, Blocked, Marked, Chosen, nearest, runner-first}
 use Rattle.promise.proofs.Core.Stack.{ahead, shorter, runner-blocks}
 
--- r ran for one tick at steps steps: from v, in mid-tick, to u
+-- r had a tick that gave `steps`: from v, in mid-tick, to u
 pub record Ticked (tasks : Tasks) (v u : View) (r steps : ℕ) : Type 0 where
   -- the other jobs
   pub same-pending : (k : ℕ) → k ≢ r → u .pending k ≡ v .pending k
@@ -59,7 +59,7 @@ module _ (tasks : Tasks) (fits : Fits tasks) (v u : View) (l : Lawful tasks v) (
       at (yes e) = ap (v .started) e ∙ chosen .started
       at (no e) = sym (ticked .same-started k e) ∙ p
 
-  -- how beyond a job that is still there was
+  -- how far a job that is still there was
   was-distance : (k : ℕ) → u .pending k ≡ true → v .distance k ≡ suc (u .distance k)
   was-distance k p = omega (arith, ticked .distance k p, mid .numbers .distance-some k (was k p))
 
@@ -126,14 +126,14 @@ module _ (tasks : Tasks) (fits : Fits tasks) (v u : View) (l : Lawful tasks v) (
     where
       by : ((r ≡ top) × ((v .started top ≡ true) ⊎ Free tasks v top)) ⊎ Blocked tasks v r top → v .distance r ≤ suc h
       by (inl w) = omega (arith, ap (v .distance) (w .0))
-      by (inr w) = at (w .first (w .g) (l .holds-started (w .g) holds))
+      by (inr w) = at (w .first (w .holder) (l .holds-started (w .holder) holds))
         where
-          holds : v .holds (w .g) ≡ true
-          holds = l .left-holds (w .g) (tasks .D top) (w .g-holds)
+          holds : v .holds (w .holder) ≡ true
+          holds = l .left-holds (w .holder) (tasks .D top) (w .holder-left)
 
-          at : (w .g ≡ r) ⊎ v .before r (w .g) → v .distance r ≤ suc h
-          at (inl x) = omega (arith, ap (v .distance) x, e .free (w .g) holds)
-          at (inr o) = omega (arith, l .near r (w .g) (chosen .pending) (w .g-pend) o, e .free (w .g) holds)
+          at : (w .holder ≡ r) ⊎ v .before r (w .holder) → v .distance r ≤ suc h
+          at (inl x) = omega (arith, ap (v .distance) x, e .free (w .holder) holds)
+          at (inr o) = omega (arith, l .near r (w .holder) (chosen .pending) (w .holder-pending) o, e .free (w .holder) holds)
 
       due : v .distance r ≤ suc h
       due = by (chosen .who)
@@ -213,7 +213,7 @@ module _ (tasks : Tasks) (fits : Fits tasks) (v u : View) (l : Lawful tasks v) (
       mk = chosen .marked (inl not-top)
 
       low : tasks .D top ≤ tasks .D (e .level)
-      low = e .here top (chosen .top-pend) d
+      low = e .here top (chosen .top-pending) d
 
       high : tasks .D (e .level) < tasks .D r
       high = e .above r (w .started) a
@@ -231,7 +231,7 @@ module _ (tasks : Tasks) (fits : Fits tasks) (v u : View) (l : Lawful tasks v) (
       holds = inside (v .left r (tasks .D (e .level))) refl
 
       fast : tasks .S (e .level) ≤ steps
-      fast = chosen .fast not-top top (e .level) (chosen .top-pend) (ahead tasks v v l r top steps chosen w) (e .level-in) low (omega (arith, high))
+      fast = chosen .fast not-top top (e .level) (chosen .top-pending) (ahead tasks v v l r top steps chosen w) (e .level-in) low (omega (arith, high))
 
       bound : Up (v .left r (tasks .D (e .level))) (tasks .S (e .level)) ≤ e .blocking
       bound = e .within r (w .started) a
@@ -324,7 +324,7 @@ module _ (tasks : Tasks) (fits : Fits tasks) (v u : View) (l : Lawful tasks v) (
       other : j ≢ r
       other e = clash (ticked .started (ap (u .pending) (sym e) ∙ p)) (ap (u .started) (sym e) ∙ q)
 
-  -- what the runner takes is seen from no started job: none is before it
+  -- what the runner takes is in no started job's way: none is before it
   keep-clear : Clear tasks u
   keep-clear f g t z o = at (ℕ-discrete g r)
     where

@@ -20,10 +20,9 @@ use Rattle.state.specs.State.{jobAt}
 use Rattle.state.specs.Order.{place, placeAt, positionOf, noPlace, isPending, isStarted, isHolder, holdsAny}
 use Rattle.state.proofs.Laws.Order.{nearer-first, first-le, first-found, place-position, place-distance}
 use Rattle.choice.specs.declared.Turn.{Turn}
-use Rattle.choice.specs.Choice.{top, bars, blocked, runner, turn, begun, begin, choice, markPlace}
+use Rattle.choice.specs.Choice.{alone, top, bars, blocked, runner, turn, begun, begin, choice, markPlace}
 use Rattle.choice.proofs.Laws.Choice as Law
 use Rattle.choice.proofs.Laws.Ready.{Ready, blocked-tells, blocked-holds, runs-started}
-use Rattle.choice.proofs.Laws.Rules.{alone}
 use Rattle.choice.proofs.Laws.Runner.{runner-blocked, runner-free}
 use Rattle.consistency.proofs.Laws.Facts.{MarkFits}
 use Rattle.promise.specs.Promise.{Passed}
@@ -130,10 +129,10 @@ module _ (t : Table) (passed : Passed t) (s : State) (good : Good t passed s) (s
       let k = w .1 .0 in
       let g = w .1 .1 in record {
         fresh = w .0;
-        g = k;
-        g-pend = g .2;
-        g-other = g .3;
-        g-holds = left-barred t (taskAt t k) (D t first) (jobAt s k .held) (good .stands .jobs k (inside t (passes t passed) s (good .stands) k (g .2)) .section) (g .1);
+        holder = k;
+        holder-pending = g .2;
+        holder-other = g .3;
+        holder-left = left-barred t (taskAt t k) (D t first) (jobAt s k .held) (good .stands .jobs k (inside t (passes t passed) s (good .stands) k (g .2)) .section) (g .1);
         started = runs-started t s ready some h;
         first = started-first h;
       }
@@ -187,7 +186,7 @@ module _ (t : Table) (passed : Passed t) (s : State) (good : Good t passed s) (s
   pub mark-fits : (m : Place) → turn t s .mark ≡ At m → MarkFits (t .count) now m
   mark-fits m e = go (Law.marked-or-alone t s ready some)
     where
-      go : Law.Marked t s ready some ⊎ (turn t s ≡ alone t s (runner t s)) → MarkFits (t .count) now m
+      go : Law.Marked t s ready some ⊎ (turn t s ≡ alone (runner t s) (taskAt t at)) → MarkFits (t .count) now m
       go (inl w) =
           let same : w .stands .mark ≡ m = ap (marked-place m) (sym (w .stands .is) ∙ e) in
           rw (← same) record { position = w .stands .position; ahead = w .stands .ahead }
@@ -196,7 +195,7 @@ module _ (t : Table) (passed : Passed t) (s : State) (good : Good t passed s) (s
   pub mark-behind : marked (turn t s .mark) ≡ true → distance now (jobAt s at .deadline .0) ≤ markDistance now (turn t s .mark)
   mark-behind e = go (Law.marked-or-alone t s ready some)
     where
-      go : Law.Marked t s ready some ⊎ (turn t s ≡ alone t s (runner t s)) → distance now (jobAt s at .deadline .0) ≤ markDistance now (turn t s .mark)
+      go : Law.Marked t s ready some ⊎ (turn t s ≡ alone (runner t s) (taskAt t at)) → distance now (jobAt s at .deadline .0) ≤ markDistance now (turn t s .mark)
       go (inl w) = reach-runner w
       go (inr w) = absurd (false≢true (sym (ap (λ (u : Turn). marked (u .mark)) w) ∙ e))
 
@@ -237,7 +236,7 @@ module _ (t : Table) (passed : Passed t) (s : State) (good : Good t passed s) (s
     same-wait = kept (λ j. j .wait .0) (λ j. refl);
     same-left = λ k x. ap (left t (taskAt t k) x) (kept (λ j. j .held) (λ j. refl) k);
     same-before = λ j k o. omega (arith, kept-place j, kept-place k);
-    top-pend = first-is .1;
+    top-pending = first-is .1;
     top-first = first-first;
     who = who;
     slow = given-more _ (turn t s .speed) (Law.speed-independent t s ready some);

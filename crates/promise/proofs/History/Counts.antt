@@ -1,13 +1,13 @@
 -- What one line more does to the counts. Assumes nothing.
 use Prim.Native.Nat.{ℕ, _+_, min}
 use mathlib.Core.Path.{_≡_}
-use mathlib.Core.Bool.{Bool, true, false, _&&_, _||_}
+use mathlib.Core.Bool.{true, false, _||_}
 use mathlib.Core.List.{List, _∷_}
 use lib.Dec.{eqb}
 use Rattle.units.specs.Amounts.{given}
 use Rattle.table.specs.declared.Table.{Table}
 use Rattle.table.specs.Table.{C}
-use Rattle.promise.specs.History.{Line, isTick, isOwn, ticksClosed, stepsGiven, longer, afterCall, section, isDone, isCarryOn, reached, endsAt, hasEnded}
+use Rattle.promise.specs.History.{Line, isTick, isOwn, ticksClosed, stepsGiven, longer, afterCall, section, isLast, endsAt, hasEnded}
 
 module _ (line : Line) (h : List Line) where
   pub no-tick : isTick line ≡ false → ticksClosed (line ∷ h) ≡ ticksClosed h
@@ -43,11 +43,7 @@ module _ (line : Line) (h : List Line) where
       unfolding section
       next-section = rw e
 
-      abbrev reasons : Bool
-      reasons =
-          isDone (line .call) || (eqb (stepsGiven t k (line ∷ h)) (C t k) || (isCarryOn (line .call) && reached t k (section k (line ∷ h))))
-
-      pub own-ended : hasEnded t k h ≡ false → hasEnded t k (line ∷ h) ≡ reasons
+      pub own-ended : hasEnded t k h ≡ false → hasEnded t k (line ∷ h) ≡ (eqb (stepsGiven t k (line ∷ h)) (C t k) || isLast t k (line .call) (section k (line ∷ h)))
       unfolding hasEnded endsAt
       own-ended g = rw (g, e)
 

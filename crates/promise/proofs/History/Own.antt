@@ -1,7 +1,7 @@
 -- A tick of the job's own: it ends for one of the three reasons, or goes on. Assumes nothing.
 use Prim.Native.Nat.{ℕ, _+_, _-_, min}
 use mathlib.Core.Path.{_≡_, refl, sym, ap, _∙_}
-use mathlib.Core.Bool.{Bool, true, false, _&&_, _||_}
+use mathlib.Core.Bool.{Bool, true, false, or-true, _||_}
 use mathlib.Core.List.{List, _∷_}
 use mathlib.Core.Logic.{_⊎_, inl, inr}
 use native.Mathlib.Omega.{arith}
@@ -26,7 +26,7 @@ use Rattle.report.specs.Report.{heldOn, atLimit, waited}
 use Rattle.report.specs.Report as Report
 use Rattle.report.proofs.Laws.Sections.{on-nothing, on-below, below-limit, at-limit, at-limit-holds}
 use Rattle.report.proofs.Laws.Jobs.{Keeps, carries, takes, gives, Fate, done, spent, stopped, goes}
-use Rattle.promise.specs.History.{report, Line, isAt, isOwn, stepsGiven, longer, afterCall, section, isDone, isCarryOn, reached, hasEnded}
+use Rattle.promise.specs.History.{report, Line, isAt, isOwn, stepsGiven, longer, afterCall, section, isLast, reached, hasEnded}
 use Rattle.promise.proofs.History.Counts.{one-tick, has-worked, next-section, own-ended}
 use Rattle.promise.proofs.History.Tells.{Tells, line, Onward}
 
@@ -44,17 +44,8 @@ module _ (t : Table) (k v : ℕ) where
   has-reached Nothing e = absurd (at-limit-holds (taskAt t k) v Nothing e refl)
   has-reached (In x) e = le-leb _ _ (at-limit (taskAt t k) v x e)
 
--- the test of the three reasons
-neither : (a b c : Bool) → a ≡ false → b ≡ false → c ≡ false → (a || (b || c)) ≡ false
-neither a b c e f g = rw (e, f, g) refl
-
-either-way : (a b c : Bool) → (a ≡ true) ⊎ ((b ≡ true) ⊎ (c ≡ true)) → (a || (b || c)) ≡ true
-either-way true b c e = refl
-either-way false true c e = refl
-either-way false false true e = refl
-either-way false false false (inl e) = e
-either-way false false false (inr (inl e)) = e
-either-way false false false (inr (inr e)) = e
+neither : (a b : Bool) → a ≡ false → b ≡ false → (a || b) ≡ false
+neither a b e f = rw (e, f) refl
 
 module _ (t : Table) (s : State) (k : ℕ) (h : List Line) (w : Tells t s k h) (u : Turn) (runs-k : u .runner ≡ Runs.Job k) (said : Report)
     (n : Job) (ending : ℕ) (next : State) (next-job : jobAt next k ≡ waited n)
@@ -80,33 +71,34 @@ module _ (t : Table) (s : State) (k : ℕ) (h : List Line) (w : Tells t s k h) (
       next-section here h t k own ∙ ap (λ (q : Report). afterCall (report q) (longer (u .speed) (section k h))) e
       ∙ ap (λ (x : Held). afterCall (report r) (longer (u .speed) x)) (sym (w .held))
 
+  last-is : {r : Report} (e : said ≡ r) → isLast t k (report said) (section k (here ∷ h)) ≡ isLast t k (report r) (afterCall (report r) (longer (u .speed) (jobAt s k .held)))
+  last-is {r} e = ap (λ (q : Report). isLast t k (report q) (section k (here ∷ h))) e ∙ ap (isLast t k (report r)) (section-is e)
+
   -- it ends, for one of the three reasons
   abbrev Why : Type 0
   Why = (said ≡ Done) ⊎ ((on .used .0 ≡ C t k) ⊎ ((said ≡ CarryOn) × (atLimit (taskAt t k) (on .held) ≡ true)))
 
   ends-by : Why → hasEnded t k (here ∷ h) ≡ true
-  ends-by why = own-ended here h t k own (w .going) ∙ either-way _ _ _ (go why)
+  ends-by why = own-ended here h t k own (w .going) ∙ go why
     where
-      go : Why → (isDone (report said) ≡ true) ⊎ ((eqb (stepsGiven t k (here ∷ h)) (C t k) ≡ true) ⊎ ((isCarryOn (report said) && reached t k (section k (here ∷ h))) ≡ true))
-      go (inl e) = inl (ap (λ (q : Report). isDone (report q)) e)
-      go (inr (inl e)) = inr (inl (eq-eqb _ _ (sym given-is ∙ e)))
+      go : Why → (eqb (stepsGiven t k (here ∷ h)) (C t k) || isLast t k (report said) (section k (here ∷ h))) ≡ true
+      go (inl e) = ap (λ (b : Bool). eqb (stepsGiven t k (here ∷ h)) (C t k) || b) (last-is e) ∙ or-true (eqb (stepsGiven t k (here ∷ h)) (C t k))
+      go (inr (inl e)) = ap (λ (b : Bool). b || isLast t k (report said) (section k (here ∷ h))) (eq-eqb _ _ (sym given-is ∙ e))
       go (inr (inr e)) =
-          inr (inr
-          (ap (λ (q : Report). isCarryOn (report q) && reached t k (section k (here ∷ h))) (e .0) ∙ ap (reached t k) (section-is (e .0))
-          ∙ has-reached t k (u .speed) (jobAt s k .held) (e .1)))
+          ap (λ (b : Bool). eqb (stepsGiven t k (here ∷ h)) (C t k) || b) (last-is (e .0) ∙ has-reached t k (u .speed) (jobAt s k .held) (e .1)) ∙ or-true (eqb (stepsGiven t k (here ∷ h)) (C t k))
 
   gone : Why → n ≡ Report.ended on → Onward t k h (report said) a
   gone why e = inr (ends-by why, ap (λ (j : Job). j .pending) (next-job ∙ ap waited e))
 
   -- it goes on, with what it holds
   module _ (x : Held) (unspent : on .used .0 ≡ C t k → ⊥) (e : n ≡ Report.holding x on) where
-    on-with : section k (here ∷ h) ≡ x → isDone (report said) ≡ false → (isCarryOn (report said) && reached t k (section k (here ∷ h))) ≡ false → Onward t k h (report said) a
-    on-with f not-done below = inl record {
+    on-with : section k (here ∷ h) ≡ x → isLast t k (report said) (section k (here ∷ h)) ≡ false → Onward t k h (report said) a
+    on-with f not-last = inl record {
       pending = ap (λ (j : Job). j .pending) same ∙ w .pending;
       near = omega (arith, w .near, one-tick here h refl, near (ap (λ (j : Job). j .deadline .0) e));
       used = ap (λ (j : Job). j .used .0) same ∙ given-is;
       held = ap (λ (j : Job). j .held) same ∙ sym f;
-      going = own-ended here h t k own (w .going) ∙ neither _ _ _ not-done (ne-eqb _ _ (λ z. unspent (given-is ∙ z))) below;
+      going = own-ended here h t k own (w .going) ∙ neither _ _ (ne-eqb _ _ (λ z. unspent (given-is ∙ z))) not-last;
     }
       where
         same : jobAt next k ≡ waited (Report.holding x on)
@@ -114,12 +106,9 @@ module _ (t : Table) (s : State) (k : ℕ) (h : List Line) (w : Tells t s k h) (
 
     stays : Keeps (taskAt t k) said (on .held) x → Onward t k h (report said) a
     stays (carries c f g) =
-        on-with (section-is c ∙ sym (g ∙ longer-held t k (u .speed) (jobAt s k .held) f)) (ap (λ (q : Report). isDone (report q)) c)
-        (ap (λ (q : Report). isCarryOn (report q) && reached t k (section k (here ∷ h))) c ∙ ap (reached t k) (section-is c) ∙ not-reached t k (u .speed) (jobAt s k .held) f)
-    stays (takes r c g) =
-        on-with (section-is c ∙ sym g) (ap (λ (q : Report). isDone (report q)) c) (ap (λ (q : Report). isCarryOn (report q) && reached t k (section k (here ∷ h))) c)
-    stays (gives c g) =
-        on-with (section-is c ∙ sym g) (ap (λ (q : Report). isDone (report q)) c) (ap (λ (q : Report). isCarryOn (report q) && reached t k (section k (here ∷ h))) c)
+        on-with (section-is c ∙ sym (g ∙ longer-held t k (u .speed) (jobAt s k .held) f)) (last-is c ∙ not-reached t k (u .speed) (jobAt s k .held) f)
+    stays (takes r c g) = on-with (section-is c ∙ sym g) (last-is c)
+    stays (gives c g) = on-with (section-is c ∙ sym g) (last-is c)
 
   pub own-tick : (o : Outcome) → o .job ≡ n → Fate (taskAt t k) said on o → Onward t k h (report said) a
   own-tick o j (done e f) = gone (inl e) (sym j ∙ ap (λ (o : Outcome). o .job) f)
