@@ -16,7 +16,7 @@ use Rattle.report.specs.Report as Report
 use Rattle.consistency.specs.Consistency.{notPendingFits, pendingFits, startedFits, waitFits, jobFits, unused, positionFits, positionsFit, unchanged, consistent}
 use Rattle.machine.specs.Machine as Machine
 use Rattle.promise.specs.History.{lines, ticksClosed, stepsGiven, section, endsAt, hasEnded}
-use Rattle.ponds.specs.Histories.{refused, P5, rollOver, RollOver}
+use Rattle.ponds.specs.Histories.{calls, refused, P5, rollOver, RollOver}
 use Rattle.ponds.specs.Ponds.{p5}
 use Rattle.ponds.specs.Document003 as Document003
 
@@ -34,9 +34,9 @@ rollOver-limits (suc (suc zero)) l = refl
 rollOver-limits (suc (suc (suc k))) l = absurd (omega arith)
 
 pub computed : P5 × RollOver × Document003.Misses
-unfolding given Up Clock.after Clock.distance over sum largest smallest some all lowest first listed set has with takes users ceiling ceilings ticksInRound independentSum B synchronizationSum countInRange settingInRange inRange fault faultAt faulty overloaded sums verdict empty passes fresh place firstInOrder lastHolder heldResources blocked runner shortestAhead fastest inherited markAt rules turn choice Report.late Report.finished Report.reportRun Report.report notPendingFits pendingFits startedFits waitFits jobFits unused positionFits positionsFit unchanged consistent Machine.release Machine.choose Machine.report lines ticksClosed stepsGiven section endsAt hasEnded refused Document003.blocking Document003.rules Document003.turn Document003.lines Document003.slow
+unfolding given Up Clock.after Clock.distance over sum largest smallest some all lowest first listed set has with takes users ceiling ceilings ticksInRound independentSum B synchronizationSum countInRange settingInRange inRange fault faultAt faulty overloaded sums verdict empty passes fresh place firstInOrder lastHolder heldResources blocked runner shortestAhead fastest inherited markAt rules turn choice Report.late Report.finished Report.reportRun Report.report notPendingFits pendingFits startedFits waitFits jobFits unused positionFits positionsFit unchanged consistent Machine.release Machine.choose Machine.report lines ticksClosed stepsGiven section endsAt hasEnded calls refused Document003.blocking Document003.rules Document003.turn Document003.lines Document003.slow
 computed = (
   record { passed = record { verdict = refl; limits = p5-limits }; tick = refl; taken = refl; waits = refl; runs = refl; ends = refl; refusals = refl },
   record { passed = record { verdict = refl; limits = rollOver-limits }; position2 = refl; takes = refl; takenSection = refl; position0 = refl; deadline = refl; isTop = refl; isBlocked = refl; inherits = refl; speeds = refl; cutAtLimit = refl; waits = refl; rolls = refl; cutAtBudget = refl },
-  record { stays = refl; differs = refl; before = refl; arrives = refl; deadline = refl; refusals = refl; fast = refl; waits = refl; runs = refl; misses = refl; pending = refl },
+  record { stays = refl; differs = refl; before = refl; arrives = refl; deadline = refl; refusals = refl; fast = refl; waits = refl; runs = refl; misses = refl; pending = refl; otherOrder = refl; otherEnds = refl },
 )

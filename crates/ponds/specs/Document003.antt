@@ -1,6 +1,6 @@
 -- Document 003's own rule, beside 01's: P5 passes, and misses under it. "Document 003 enters synchronization mode only when a blocked job arrives, and claims in Theorem 3 that this meets all deadlines. It does not."
 use Prim.Native.Nat.{ℕ, _+_}
-use mathlib.Core.{Path._≡_, Bool.true, Bool.false, Bool.not, Bool._&&_, Bool.cond, List.List, List.[], List._∷_, List._++_, List.map, List.reverse}
+use mathlib.Core.{Path._≡_, Bool.true, Bool.false, Bool.not, Bool._&&_, Bool.cond, List.List, List.[], List._∷_, List._++_, List.map}
 use lib.Dec.{ltb, eqb}
 use Rattle.units.specs.Clock as Clock
 use Rattle.units.specs.Folds.{largest}
@@ -11,8 +11,9 @@ use Rattle.report.specs.Report.{reportAs}
 use Rattle.machine.specs.Machine.{releasedAt, chosen}
 use Rattle.promise.specs.History.{Call, release, choose, report, Line, current, start, isTick}
 use Rattle.ponds.specs.Histories as Histories
-use Rattle.ponds.specs.Histories.{tick, told, counted, refused, p5Before, p5Later}
-use Rattle.ponds.specs.Ponds.{p5}
+use Rattle.ponds.specs.Histories.{calls, told, counted, refused, before2, later2}
+use Rattle.ponds.specs.Runs as Runs
+use Rattle.ponds.specs.Ponds.{task, table, p5}
 
 -- ---- its Figure 1. SYNC is where a mark stands.
 
@@ -42,7 +43,8 @@ rules t s run =
 unfoldable pub turn : Table → State → Turn
 turn t s = cond (ltb (top s) noPlace) (rules t s (runner t s)) idle
 
--- ---- histories under it, as those under 01's rules; the test of consistency, which makes 01's choice again, is left out
+-- ---- histories under it, as those under 01's rules. The test of consistency, which makes 01's choice again, is left out, and so are numbers 10 and 11: no call below is in the wrong half or past the table.
+
 abbrev pub choice : State → Turn → Choice
 choice s u =
     record { state = record { tick = s .tick; jobs = begin s (u .runner); mark = u .mark; half = Second; runner = u .runner }; turn = u }
@@ -56,11 +58,11 @@ unfoldable pub lines : Table → State → List Call → List Line
 lines t s [] = []
 lines t s (call ∷ before) = let h = lines t s before in record { call = call; answer = answered t (current s h) call } ∷ h
 
-abbrev pub after : Table → State → List Call → State
-after t s calls = current s (lines t s calls)
+abbrev pub stateAfter : Table → State → List Call → State
+stateAfter t s calls = current s (lines t s calls)
 
 abbrev pub ticked : Table → State → List Call → Report → ℕ × ℕ × Runner × Mode × ℕ × ℕ
-ticked t s calls said = let h = after t s (choose ∷ calls) in told h (answered t h (report said))
+ticked t s calls said = let h = stateAfter t s (choose ∷ calls) in told h (answered t h (report said))
 
 -- how many ticks were below full speed
 unfoldable pub slow : Table → List Line → ℕ
@@ -71,31 +73,38 @@ slow t (line ∷ before) = cond (isTick line && ltb (line .answer .speed) (t .fu
 
 -- tick 1, with positions 0 and 1 released; tick 7, with position 2 taken on; and the lines since then, with n ticks after those up to tick 10
 abbrev pub p5First : List Call
-p5First = reverse (release 3 ∷ tick (Take 0) (release 0 ∷ release 1 ∷ []))
+p5First = calls (Runs.release 3 ∷ Runs.tick (Take 0) ∷ Runs.release 0 ∷ Runs.release 1 ∷ [])
 
 abbrev pub p5Taken : State
-p5Taken = answered p5 (after p5 (start p5 0) p5Before) (release 2) .state
+p5Taken = answered p5 (stateAfter p5 (start p5 0) before2) (release 2) .state
 
 abbrev pub p5Since : ℕ → List Line
-p5Since n = lines p5 p5Taken (p5Later n)
+p5Since n = lines p5 p5Taken (later2 n)
 
--- What it leaves open is read in its favour: the mode is entered with the release, though jobs ahead run first, and the speed is set anew in every tick, also for a job that began in the other mode.
--- From tick 7 on all is at full speed, and still there are 15 ticks of work for the 14 before tick 21: 1 of position 0, 3 and 3 of position 1, 1 of position 2, and 7 of position 3's section.
--- Of equal deadlines it says nothing, so that Theorem 3 claims its rule for any order among them: 01's is taken. (With position 1 ahead of position 0 in tick 1, and the speed set anew, no job of P5 would miss.)
+-- P5 with positions 0 and 1 exchanged
+abbrev pub exchanged : Table
+exchanged = table 6 280 4 (task 10 18 6 6 0 0 ∷ task 10 6 1 6 0 0 ∷ task 14 6 6 6 6 0 ∷ task 280 48 6 6 42 0 ∷ [])
+
+-- The mode is entered with the release, as Figure 1 and the blocking test say, though jobs ahead run first. What is left open is read in its favour: the speed is set anew in every tick, also for a job
+-- that began in the other mode. From tick 7 on all is at full speed, and still there are 15 ticks of work for the 14 before tick 21: 1 of position 0, 3 and 3 of position 1, 1 of position 2, and 7 of position 3's section.
+-- Of equal deadlines it says nothing, so that Theorem 3 claims its rule for any order among them: 01's is taken. With positions 0 and 1 exchanged no call is refused.
 pub record Misses : Type 0 where
   -- in tick 1 position 0 runs over a preempted holder: independent, speed I. By 01's rule 2: synchronization, speed S, and it ends
   pub stays : ticked p5 (start p5 0) p5First CarryOn ≡ (1, 0, Job 0, Independent, 1, 0)
   pub differs : Histories.ticked p5 (start p5 0) p5First CarryOn ≡ (1, 0, Job 0, Synchronization, 6, 2)
   -- the mode is entered when position 2 arrives, with deadline 21: position 3 is marked
-  pub before : after p5 (start p5 0) p5Before .mark ≡ Absent
+  pub before : stateAfter p5 (start p5 0) before2 .mark ≡ Absent
   pub arrives : p5Taken .mark ≡ At (record { deadline = Clock.tick 280; position = 3 })
   pub deadline : jobAt p5Taken 2 .deadline .0 ≡ 21
   -- up to the end of tick 19 no call is refused, and from tick 7 on no tick is below full speed
-  pub refusals : refused (lines p5 (start p5 0) (p5Later 9 ++ (release 2 ∷ p5Before))) ≡ 0
+  pub refusals : refused (lines p5 (start p5 0) (later2 9 ++ (release 2 ∷ before2))) ≡ 0
   pub fast : slow p5 (p5Since 9) ≡ 0
   -- in these 13 ticks position 2 was given nothing, nor is it in the next: position 3 runs
   pub waits : counted p5 2 (p5Since 9) ≡ (13, false, 0, Nothing)
-  pub runs : told (after p5 p5Taken (p5Later 9)) (answered p5 (after p5 p5Taken (p5Later 9)) choose) ≡ (20, 0, Job 3, Synchronization, 6, 0)
+  pub runs : told (stateAfter p5 p5Taken (later2 9)) (answered p5 (stateAfter p5 p5Taken (later2 9)) choose) ≡ (20, 0, Job 3, Synchronization, 6, 0)
   -- "position 2 misses tick 21": the report of tick 20 is answered 16, as it is "still pending after this half"
-  pub misses : ticked p5 p5Taken (p5Later 9) CarryOn ≡ (20, 16, Nobody, Independent, 0, 0)
-  pub pending : map (λ k. jobAt (after p5 p5Taken (p5Later 10)) k .pending) (0 ∷ 1 ∷ 2 ∷ 3 ∷ []) ≡ false ∷ false ∷ true ∷ true ∷ []
+  pub misses : ticked p5 p5Taken (later2 9) CarryOn ≡ (20, 16, Nobody, Independent, 0, 0)
+  pub pending : map (λ k. jobAt (stateAfter p5 p5Taken (later2 10)) k .pending) (0 ∷ 1 ∷ 2 ∷ 3 ∷ []) ≡ false ∷ false ∷ true ∷ true ∷ []
+  -- by the other order of equal deadlines: no call is refused up to the end of tick 21, and position 2 has ended
+  pub otherOrder : refused (lines exchanged (start exchanged 0) (later2 11 ++ (release 2 ∷ before2))) ≡ 0
+  pub otherEnds : jobAt (stateAfter exchanged (start exchanged 0) (later2 11 ++ (release 2 ∷ before2))) 2 .pending ≡ false

@@ -44,10 +44,13 @@ two = table 2 20 2 (task 10 2 1 2 2 0 ∷ task 20 8 1 2 4 0 ∷ [])
 abbrev pub p7 : Table
 p7 = table 4 90 4 (task 9 1 1 4 0 0 ∷ task 10 1 1 4 1 0 ∷ task 10 1 1 4 0 0 ∷ task 90 8 1 4 8 0 ∷ [])
 
--- P5's releases: "Position 3 released at 0 takes resource 0 at its first report; positions 0 and 1 released at 1 and 11, position 2 at 7; all use whole budgets."
-abbrev pub p5Events : List Event
-p5Events =
-    (release 3 ∷ tick (Take 0) ∷ release 0 ∷ release 1 ∷ []) ++ (carry 6 ++ ((release 2 ∷ []) ++ (carry 4 ++ ((release 0 ∷ release 1 ∷ []) ++ carry 5))))
+-- P5's events: "Position 3 released at 0 takes resource 0 at its first report; positions 0 and 1 released at 1 and 11, position 2 at 7; all use whole budgets.":
+-- up to tick 7, and from the release of position 2 on with n ticks after tick 10
+abbrev pub p5Before : List Event
+p5Before = (release 3 ∷ tick (Take 0) ∷ release 0 ∷ release 1 ∷ []) ++ carry 6
+
+abbrev pub p5Later : ℕ → List Event
+p5Later n = carry 4 ++ ((release 0 ∷ release 1 ∷ []) ++ carry n)
 
 -- the number and the position
 abbrev pub said : Table → List ℕ
@@ -74,7 +77,7 @@ ponds =
     -- P5: "Independent sum 280; synchronization at position 2 is 272. Passed."
     ∷ pond (said p5 ++ (independentSum p5 ∷ synchronizationSum p5 2 ∷ [])) (0 ∷ 0 ∷ 280 ∷ 272 ∷ [])
     -- P5: "Here it runs in tick 16."
-    ∷ pond (runsNext p5 0 p5Events) (16 ∷ 2 ∷ [])
+    ∷ pond (runsNext p5 0 (p5Before ++ ((release 2 ∷ []) ++ p5Later 5))) (16 ∷ 2 ∷ [])
     -- P6: "tick 4,294,967,290, D 10: deadline 4, behind a deadline of 4,294,967,295."
     ∷ pond (after 4294967290 10 ∷ distance 4294967290 4 ∷ distance 4294967290 4294967295 ∷ []) (4 ∷ 10 ∷ 5 ∷ [])
     -- P7: "top whose D equals the ceiling is blocked; with D one less it is not."

@@ -9,7 +9,7 @@ use borrow.Author.Tests.{eqb-true}
 use Rattle.units.specs.Clock.{tick}
 use Rattle.units.proofs.Laws.Folds.{both}
 use Rattle.table.specs.declared.Table.{Table}
-use Rattle.table.specs.Table.{D, limit}
+use Rattle.table.specs.Table.{D}
 use Rattle.state.specs.declared.Answer.{Answer}
 use Rattle.state.specs.declared.Job.{Job}
 use Rattle.state.specs.declared.State.{State}
@@ -18,11 +18,11 @@ use Rattle.state.specs.State.{jobAt, empty}
 use Rattle.state.proofs.Laws.Fresh.{fresh-passed, empty-job}
 use Rattle.machine.specs.Machine.{releasedAt}
 use Rattle.promise.specs.History.{Call, release, choose, report, answered, lines, stateAfter, start, isReport, isTick, isAt, ticksClosed, hasEnded}
-use Rattle.promise.specs.Promise.{Passed, TakenOn, stateTaken, since, InTime, Finished, Below, WithinLimits, ByNoRefusal, Promise}
+use Rattle.promise.specs.Promise.{Passed, TakenOn, stateTaken, since, InTime, Finished, Below, WithinLimits, ByNoRefusal, GoesOn, OneJob, Promise}
 use Rattle.promise.proofs.History.Counts.{stays-ended}
 use Rattle.promise.proofs.Edge.Invariant.{passes, Good, fresh-good}
 use Rattle.promise.proofs.Keep.Made.{Made, refused, takes-on, chooses, idles, runs}
-use Rattle.promise.proofs.Keep.Each.{keep}
+use Rattle.promise.proofs.Keep.Each.{goes-on, keep}
 use Rattle.promise.proofs.History.Tells.{Tells, line, Onward}
 use Rattle.promise.proofs.History.Onward.{onward, begins}
 use Rattle.promise.proofs.History.Whose.{was-pending}
@@ -238,7 +238,7 @@ module _ (t : Table) (passed : Passed t) where
             record {
               going = tells .going;
               budget = omega (arith, tells .used, good .mid .numbers .used-C k p);
-              limit = λ x e. good .stands .jobs k inside .section x (tells .held ∙ e) .steps;
+              inSection = λ x e. good .stands .jobs k inside .section x (tells .held ∙ e) .steps;
             },
           )
 
@@ -252,10 +252,34 @@ module _ (t : Table) (passed : Passed t) where
           let same : p ≡ k = eqb-true p k (sym (ap (isAt k) (ap (λ (b : Answer). b .runner) e ∙ r)) ∙ mine) in
           of (ap (λ (i : ℕ). jobAt s i .pending) (sym same) ∙ f)
 
+  -- ---- the others
+
+  always-on : GoesOn t
+  always-on now small calls = goes-on t passed (at now small calls) (at-good now small calls)
+
+  one-job : OneJob t
+  one-job now small before k zero later again = go (tracked now small before k zero later)
+    where
+      s : State
+      s = stateAfter t (stateTaken t now before k) later
+
+      go : Tells t s k (since t now before k later) ⊎ (hasEnded t k (since t now before k later) ≡ true) → hasEnded t k (since t now before k later) ≡ true
+      go (inr e) = e
+      go (inl w) = by (keep t passed s (good-after (stateTaken t now before k) (taken-good now small before k) later) (release k) .made)
+        where
+          by : Made t s (release k) (answered t s (release k)) → hasEnded t k (since t now before k later) ≡ true
+          by (refused n l e) = absurd (omega (arith, l, again, ap (λ (a : Answer). a .number) e))
+          by (takes-on p c l f e) = absurd (false≢true (sym f ∙ ap (λ (i : ℕ). jobAt s i .pending) (sym (ap positionOf c)) ∙ w .pending))
+          by (chooses c e) = absurd (false≢true (sym (ap isRelease c)))
+          by (idles c r f e) = absurd (false≢true (sym (ap isRelease c)))
+          by (runs p said c r l f e) = absurd (false≢true (sym (ap isRelease c)))
+
 pub promise : Promise
 promise t passed = record {
-  in-time = jobs-in-time t passed;
+  inTime = jobs-in-time t passed;
   finished = jobs-finished t passed;
-  within-limits = ticks-given t passed;
-  by-no-refusal = calls-answered t passed;
+  withinLimits = ticks-given t passed;
+  byNoRefusal = calls-answered t passed;
+  goesOn = always-on t passed;
+  oneJob = one-job t passed;
 }

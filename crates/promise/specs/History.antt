@@ -26,12 +26,12 @@ pub record Line : Type 0 where
   pub call : Call
   pub answer : Answer
 
--- lines stand with the latest first: the state that the latest handed back, or s before the first
+-- calls and lines stand with the latest first: the state that the latest line handed back, or s before there is one
 abbrev pub current : State → List Line → State
 current s [] = s
 current s (line ∷ before) = line .answer .state
 
--- the lines of some calls from a state: each call is made on the state of the answer before it, "handed on unaltered"
+-- the lines of some calls from a state: each call is made on the state of the answer before it, handed on unaltered
 unfoldable pub lines : Table → State → List Call → List Line
 lines t s [] = []
 lines t s (call ∷ before) = let h = lines t s before in record { call = call; answer = answered t (current s h) call } ∷ h
@@ -44,9 +44,9 @@ stateAfter t s calls = current s (lines t s calls)
 abbrev pub start : Table → ℕ → State
 start t now = fresh t (tick now) .state
 
--- ---- what is counted in the lines since the job at k was taken on
+-- ---- what is counted in the lines since the job at k was taken on. Past its end they run on with the position's next job; nothing is read off them there.
 
--- a tick was closed: a report was taken
+-- a tick was closed: a report was answered 0
 abbrev pub isReport : Call → Bool
 isReport (release k) = false
 isReport choose = false
@@ -73,11 +73,12 @@ unfoldable pub stepsGiven : Table → ℕ → List Line → ℕ
 stepsGiven t k [] = 0
 stepsGiven t k (line ∷ before) = cond (isOwn k line) (min (stepsGiven t k before + given (line .answer .speed)) (C t k)) (stepsGiven t k before)
 
--- the resource that it took and has not given back, with the steps that it was given since the take
+-- a section, with the steps of one more tick at speed v
 abbrev pub longer : ℕ → Held → Held
 longer v Nothing = Nothing
 longer v (In x) = In (record { resource = x .resource; steps = steps (x .steps .0 + given v) })
 
+-- and what is held after a report: "A section starts at 0 steps."
 abbrev pub afterCall : Call → Held → Held
 afterCall (release k) h = h
 afterCall choose h = h
@@ -86,6 +87,7 @@ afterCall (report Done) h = h
 afterCall (report (Take r)) h = In (record { resource = r; steps = steps 0 })
 afterCall (report Give) h = Nothing
 
+-- the resource that it took and has not given back, with the steps that it was given since the take
 unfoldable pub section : ℕ → List Line → Held
 section k [] = Nothing
 section k (line ∷ before) = cond (isOwn k line) (afterCall (line .call) (longer (line .answer .speed) (section k before))) (section k before)
@@ -110,6 +112,7 @@ isLast t k (report Give) h = false
 unfoldable pub endsAt : Table → ℕ → Line → List Line → Bool
 endsAt t k line before = isOwn k line && (eqb (stepsGiven t k (line ∷ before)) (C t k) || isLast t k (line .call) (section k (line ∷ before)))
 
+-- at some line since; what has ended stays so, whatever a later job of the position does
 unfoldable pub hasEnded : Table → ℕ → List Line → Bool
 hasEnded t k [] = false
 hasEnded t k (line ∷ before) = hasEnded t k before || endsAt t k line before

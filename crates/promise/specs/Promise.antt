@@ -4,8 +4,8 @@ use mathlib.Core.{Path._≡_, Logic._⊎_, Bool.true, Bool.false, List.List, Lis
 use lib.ListN.{length}
 use Rattle.table.specs.{declared.Table.Table, Table.taskAt, Table.D, Table.C, Table.limit}
 use Rattle.admission.specs.Admission as Admission
-use Rattle.state.specs.{declared.State.State, declared.Section.Section, declared.Held.the-variants.In, declared.Report.Report, State.jobAt}
-use Rattle.promise.specs.History.{Call, release, report, answered, Line, lines, stateAfter, start, isOwn, ticksClosed, stepsGiven, section, hasEnded}
+use Rattle.state.specs.{declared.State.State, declared.Section.Section, declared.Held.the-variants.In, declared.Report.Report, declared.Report.the-variants.CarryOn, State.jobAt}
+use Rattle.promise.specs.History.{Call, release, choose, report, answered, Line, lines, stateAfter, start, isOwn, ticksClosed, stepsGiven, section, hasEnded}
 
 -- A table whose verdict is 0. (Each task of a table has 8 limits; here, where an array is a list, that has to be said.)
 pub record Passed (t : Table) : Type 0 where
@@ -38,11 +38,11 @@ abbrev pub Finished : Table → Type 0
 Finished t = FromAnyTick λ now. (before : List Call) (k : ℕ) → TakenOn t now before k → (later : List Call)
     → D t k ≤ ticksClosed (since t now before k later) → hasEnded t k (since t now before k later) ≡ true
 
--- 2. Each tick that is given goes to a job that was taken on and has not ended; it finds it below its budget, and below the limit of the section that it is in.
-pub record Below (t : Table) (k : ℕ) (since : List Line) : Type 0 where
-  pub going : hasEnded t k since ≡ false
-  pub budget : stepsGiven t k since < C t k
-  pub limit : (x : Section) → section k since ≡ In x → x .steps .0 < limit (taskAt t k) (x .resource)
+-- 2. Each tick that a job is given finds it taken on and not ended, below its budget, and below the limit of the section that it is in.
+pub record Below (t : Table) (k : ℕ) (lines : List Line) : Type 0 where
+  pub going : hasEnded t k lines ≡ false
+  pub budget : stepsGiven t k lines < C t k
+  pub inSection : (x : Section) → section k lines ≡ In x → x .steps .0 < limit (taskAt t k) (x .resource)
 
 abbrev pub WithinLimits : Table → Type 0
 WithinLimits t = FromAnyTick λ now. (calls : List Call) (said : Report) (k : ℕ)
@@ -54,12 +54,24 @@ abbrev pub ByNoRefusal : Table → Type 0
 ByNoRefusal t = FromAnyTick λ now. (calls : List Call) (call : Call)
     → (answered t (stateAfter t (start t now) calls) call .number ≡ 9 → ⊥) × (answered t (stateAfter t (start t now) calls) call .number ≡ 16 → ⊥)
 
+-- 4. Nor is one kept by a tick that can't be closed: at every place a choice is answered 0, or a report to carry on is.
+abbrev pub GoesOn : Table → Type 0
+GoesOn t = FromAnyTick λ now. (calls : List Call)
+    → (answered t (stateAfter t (start t now) calls) choose .number ≡ 0) ⊎ (answered t (stateAfter t (start t now) calls) (report CarryOn) .number ≡ 0)
+
+-- 5. A position is taken on again only when its job has ended: "A task has at most one pending job."
+abbrev pub OneJob : Table → Type 0
+OneJob t = FromAnyTick λ now. (before : List Call) (k : ℕ) → TakenOn t now before k → (later : List Call)
+    → answered t (stateAfter t (stateTaken t now before k) later) (release k) .number ≡ 0 → hasEnded t k (since t now before k later) ≡ true
+
 -- The promise: all of this holds of every table that passes. Nothing is assumed of the calls.
 pub record Kept (t : Table) : Type 0 where
-  pub in-time : InTime t
+  pub inTime : InTime t
   pub finished : Finished t
-  pub within-limits : WithinLimits t
-  pub by-no-refusal : ByNoRefusal t
+  pub withinLimits : WithinLimits t
+  pub byNoRefusal : ByNoRefusal t
+  pub goesOn : GoesOn t
+  pub oneJob : OneJob t
 
 abbrev pub Promise : Type 0
 Promise = (t : Table) → Passed t → Kept t

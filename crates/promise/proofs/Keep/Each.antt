@@ -1,11 +1,14 @@
 -- Each call keeps the invariant. Assumes nothing.
-use mathlib.Core.Path.{_≡_, refl}
+use mathlib.Core.Path.{_≡_, refl, ap}
+use mathlib.Core.Logic.{_⊎_, inl, inr}
 use native.Mathlib.Omega.{arith}
 use Rattle.table.specs.declared.Table.{Table}
 use Rattle.state.specs.declared.Job.{Job}
 use Rattle.state.specs.declared.Half.{Half}
 use Rattle.state.specs.declared.Half.the-variants.{First, Second}
+use Rattle.state.specs.declared.Answer.{Answer}
 use Rattle.state.specs.declared.Report.{Report}
+use Rattle.state.specs.declared.Report.the-variants.{CarryOn}
 use Rattle.state.specs.declared.Runner.{Runner}
 use Rattle.state.specs.declared.Runner.the-variants as Runs
 use Rattle.state.specs.declared.State.{State}
@@ -17,8 +20,8 @@ use Rattle.promise.proofs.Edge.Invariant.{Good}
 use Rattle.promise.proofs.Keep.Made.{Next, refuses, steady, between}
 use Rattle.promise.proofs.Keep.Release.{keep-release}
 use Rattle.promise.proofs.Keep.Choose.{keep-choose}
-use Rattle.promise.proofs.Keep.Idle.{keep-idle}
-use Rattle.promise.proofs.Keep.Run.{keep-run}
+use Rattle.promise.proofs.Keep.Idle.{idle-goes-on, keep-idle}
+use Rattle.promise.proofs.Keep.Run.{run-goes-on, keep-run}
 
 module _ (t : Table) (passed : Passed t) (s : State) (good : Good t passed s) where
   keep-report : (said : Report) → Next t passed s good (report said) (answered t s (report said))
@@ -28,6 +31,15 @@ module _ (t : Table) (passed : Passed t) (s : State) (good : Good t passed s) wh
       go First h r e = refuses t passed s good (report said) _ 11 (omega arith) (Calls.report-11 t s (steady t passed s good) said (between t passed s good h))
       go Second h Runs.Nobody e = keep-idle t passed s good h e said
       go Second h (Runs.Job p) e = keep-run t passed s good h p e said
+
+  -- at every place a tick can be begun, or closed
+  pub goes-on : (answered t s choose .number ≡ 0) ⊎ (answered t s (report CarryOn) .number ≡ 0)
+  goes-on = go (s .half) refl (turn t s .runner) refl
+    where
+      go : (h : Half) → s .half ≡ h → (r : Runner) → turn t s .runner ≡ r → (answered t s choose .number ≡ 0) ⊎ (answered t s (report CarryOn) .number ≡ 0)
+      go First h r e = inl (ap (λ (a : Answer). a .number) (Calls.choose-runs t s (steady t passed s good) (between t passed s good h)))
+      go Second h Runs.Nobody e = inr (idle-goes-on t passed s good h e)
+      go Second h (Runs.Job p) e = inr (run-goes-on t passed s good h p e)
 
   pub keep : (call : Call) → Next t passed s good call (answered t s call)
   keep (release p) = keep-release t passed s good p

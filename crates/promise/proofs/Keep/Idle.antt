@@ -9,6 +9,7 @@ use lib.ListN.{length-map}
 use Rattle.units.proofs.Laws.Clock.{after-lt}
 use Rattle.table.specs.declared.Table.{Table}
 use Rattle.table.specs.Table.{taskAt}
+use Rattle.state.specs.declared.Answer.{Answer}
 use Rattle.state.specs.declared.Job.{Job}
 use Rattle.state.specs.declared.Section.{Section}
 use Rattle.state.specs.declared.Half.the-variants.{Second}
@@ -24,9 +25,10 @@ use Rattle.choice.specs.declared.Turn.{Turn}
 use Rattle.choice.specs.Choice.{top, turn}
 use Rattle.choice.proofs.Laws.Choice as Law
 use Rattle.choice.proofs.Laws.Runner.{nobody}
+use Rattle.report.specs.Report as AtReport
 use Rattle.report.specs.Report.{waited, closed}
 use Rattle.report.proofs.Laws.Jobs.{closed-at}
-use Rattle.report.proofs.Laws.Answers.{in-time, idle-closes, idle-objects}
+use Rattle.report.proofs.Laws.Answers.{taken-answer, in-time, idle-closes, idle-objects}
 use Rattle.consistency.proofs.Laws.Facts.{Unchanged}
 use Rattle.consistency.proofs.Laws.Middle.{again-same}
 use Rattle.machine.proofs.Laws.Calls as Calls
@@ -86,11 +88,18 @@ module _ (t : Table) (passed : Passed t) (s : State) (good : Good t passed s) (h
         rests t passed passed-by passed-stands refl refl
         (fresh (tasks t) (view t passed-by) (sees t passed passed-by passed-stands) passed-nobody)
 
+    answer : answered t s (report CarryOn) ≡ taken-answer s (s .jobs) (turn t s) 0
+    answer =
+        Calls.report-runs t s (steady t passed s good) CarryOn (middle t passed s good h)
+        ∙ idle-closes t s idle (in-time passed-by (λ k l p. absurd (passed-nobody k p)))
+
+    -- the tick can be closed
+    pub idle-goes-on : answered t s (report CarryOn) .number ≡ 0
+    idle-goes-on = ap (λ (a : Answer). a .number) answer
+
     pub keep-idle : (said : Report) → Next t passed s good (report said) (answered t s (report said))
     keep-idle said = go said (idle-objects t s idle said)
       where
-        go : (said : Report) → (said ≡ CarryOn) ⊎ (Rattle.report.specs.Report.report t s said ≡ bare 14 s) → Next t passed s good (report said) (answered t s (report said))
+        go : (said : Report) → (said ≡ CarryOn) ⊎ (AtReport.report t s said ≡ bare 14 s) → Next t passed s good (report said) (answered t s (report said))
         go said (inr e) = refuses t passed s good (report said) _ 14 (omega arith) (Calls.report-runs t s (steady t passed s good) said (middle t passed s good h) ∙ e)
-        go said (inl e) =
-            rw (e, Calls.report-runs t s (steady t passed s good) CarryOn (middle t passed s good h), idle-closes t s idle (in-time passed-by (λ k l p. absurd (passed-nobody k p))))
-            record { kept = passed-good; made = idles refl idle (nobody-pending t passed s good none) refl }
+        go said (inl e) = rw (e, answer) record { kept = passed-good; made = idles refl idle (nobody-pending t passed s good none) refl }

@@ -10,11 +10,13 @@ use Rattle.units.specs.Amounts.{given}
 use Rattle.units.specs.Sets.{has}
 use Rattle.table.specs.declared.Table.{Table}
 use Rattle.table.specs.Table.{taskAt, D, limit, ceiling, ceilings}
+use Rattle.state.specs.declared.Answer.{Answer}
 use Rattle.state.specs.declared.Job.{Job}
 use Rattle.state.specs.declared.Section.{Section}
 use Rattle.state.specs.declared.Half.the-variants.{Second}
 use Rattle.state.specs.declared.Held.the-variants.{Nothing, In}
 use Rattle.state.specs.declared.Report.{Report}
+use Rattle.state.specs.declared.Report.the-variants.{CarryOn}
 use Rattle.state.specs.declared.Runner.the-variants as Runs
 use Rattle.state.specs.declared.State.{State}
 use Rattle.state.specs.State.{jobAt}
@@ -26,7 +28,7 @@ use Rattle.choice.proofs.Laws.Choice as Law
 use Rattle.choice.proofs.Laws.Runner.{named, nobody}
 use Rattle.report.specs.Report.{closed, late, objection}
 use Rattle.report.proofs.Laws.Jobs.{settled-is}
-use Rattle.report.proofs.Laws.Answers.{Fair, Objection, holding, never, taken, objection-is, held-by, held-by-none, in-time, outcome, run-objects, run-closes}
+use Rattle.report.proofs.Laws.Answers.{taken-answer, Fair, Objection, holding, never, taken, objection-is, carrying, held-by, held-by-none, in-time, outcome, run-objects, run-closes}
 use Rattle.consistency.proofs.Laws.Held.{holds-tells}
 use Rattle.consistency.proofs.Laws.Jobs.{takes-one-of-8}
 use Rattle.machine.proofs.Laws.Calls as Calls
@@ -142,24 +144,32 @@ module _ (t : Table) (passed : Passed t) (s : State) (good : Good t passed s) (h
       next-in-time : late next ≡ false
       next-in-time = in-time next (λ k l e. next-between .midway .numbers .distance-some k e)
 
+    abbrev number : Report → ℕ
+    number said = objection (taskAt t p) (jobAt s p) (heldResources s) said
+
+    answer : (said : Report) → number said ≡ 0 → (fair : Fair (taskAt t p) (jobAt s p) (heldResources s) said)
+        → answered t s (report said) ≡ taken-answer s (set (s .jobs) p (outcome t s (turn t s) p said .job)) (turn t s) (outcome t s (turn t s) p said .ending)
+    answer said e fair =
+        Calls.report-runs t s (steady t passed s good) said (middle t passed s good h) ∙ run-closes t s p runs-p said e (next-in-time said fair)
+
+    -- the tick can be closed
+    pub run-goes-on : answered t s (report CarryOn) .number ≡ 0
+    run-goes-on = let w = carrying (taskAt t p) (jobAt s p) (heldResources s) in ap (λ (a : Answer). a .number) (answer CarryOn (w .0) (w .1))
+
     pub keep-run : (said : Report) → Next t passed s good (report said) (answered t s (report said))
     keep-run said = go (objection-is (taskAt t p) (jobAt s p) (heldResources s) said)
       where
-        number : ℕ
-        number = objection (taskAt t p) (jobAt s p) (heldResources s) said
-
-        objects : (10 ≤ number) × (number ≤ 14) → Next t passed s good (report said) (answered t s (report said))
+        objects : (10 ≤ number said) × (number said ≤ 14) → Next t passed s good (report said) (answered t s (report said))
         objects l =
-            refuses t passed s good (report said) _ number l (Calls.report-runs t s (steady t passed s good) said (middle t passed s good h) ∙ run-objects t s p runs-p said (λ e. omega (arith, l)))
+            refuses t passed s good (report said) _ (number said) l
+            (Calls.report-runs t s (steady t passed s good) said (middle t passed s good h) ∙ run-objects t s p runs-p said (λ e. omega (arith, l)))
 
-        go : ((number ≡ 0) × Fair (taskAt t p) (jobAt s p) (heldResources s) said) ⊎ Objection (taskAt t p) (jobAt s p) (heldResources s) number
+        go : ((number said ≡ 0) × Fair (taskAt t p) (jobAt s p) (heldResources s) said) ⊎ Objection (taskAt t p) (jobAt s p) (heldResources s) (number said)
             → Next t passed s good (report said) (answered t s (report said))
         go (inr (holding e)) = objects (omega arith)
         go (inr (never e)) = objects (omega arith)
         go (inr (taken r e l f n)) = absurd (none-holds r e l f)
-        go (inl w) =
-            rw (Calls.report-runs t s (steady t passed s good) said (middle t passed s good h), run-closes t s p runs-p said (w .0) (next-in-time said (w .1)))
-            record {
-              kept = rests t passed (next said (w .1)) (next-stands said (w .1)) refl refl (next-between said (w .1));
-              made = runs p said refl runs-p within there refl;
-            }
+        go (inl w) = rw (answer said (w .0) (w .1)) record {
+          kept = rests t passed (next said (w .1)) (next-stands said (w .1)) refl refl (next-between said (w .1));
+          made = runs p said refl runs-p within there refl;
+        }

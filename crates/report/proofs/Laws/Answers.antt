@@ -92,6 +92,10 @@ objection-is task j held said = go said (holdsAny (j .held)) refl
     go (Take r) true e = rw e (inr (holding refl))
     go (Take r) false e = rw e (more r (holding-any (j .held) e) (eqb (limit task r) 0) refl (has held r) refl)
 
+-- none meets a job that carries on
+pub carrying : (task : Task) (j : Job) (held : ℕ) → (objection task j held CarryOn ≡ 0) × Fair task j held CarryOn
+carrying task j held = (refl, record { takes = λ r e. absurd (false≢true (ap wants e)) })
+
 -- a resource that is in the set of those held is held by a job; one that is not, by none
 pub held-by : (s : State) (r : ℕ) → r < 16 → has (heldResources s) r ≡ true → (k : ℕ) × (k < 16) × (holds r (jobAt s k .held) ≡ true)
 unfolding heldResources
