@@ -38,14 +38,14 @@ isRelease (release p) = true
 isRelease choose = false
 isRelease (report said) = false
 
-module _ (t : Table) (passed : Passed t) where
+module _ {t : Table} (passed : Passed t) where
   -- ---- every state of a history is good
 
-  module _ (y : State) (good : Good t passed y) where
-    pub good-after : (calls : List Call) → Good t passed (stateAfter t y calls)
+  module _ (y : State) (good : Good passed y) where
+    pub good-after : (calls : List Call) → Good passed (stateAfter t y calls)
     unfolding lines
     good-after [] = good
-    good-after (call ∷ before) = keep t passed (stateAfter t y before) (good-after before) call .kept
+    good-after (call ∷ before) = keep (good-after before) call .kept
 
     -- ---- a job that goes on, goes on or has ended
     module _ (k : ℕ) (new : Tells t y k []) where
@@ -57,7 +57,7 @@ module _ (t : Table) (passed : Passed t) where
           go : Tells t (stateAfter t y before) k (lines t y before) ⊎ (hasEnded t k (lines t y before) ≡ true)
               → Tells t (stateAfter t y (call ∷ before)) k (lines t y (call ∷ before)) ⊎ (hasEnded t k (lines t y (call ∷ before)) ≡ true)
           go (inr e) = inr (stays-ended (line call (answered t (stateAfter t y before) call)) (lines t y before) t k e)
-          go (inl w) = by (onward t passed (stateAfter t y before) (good-after before) k (lines t y before) w call _ (keep t passed (stateAfter t y before) (good-after before) call .made))
+          go (inl w) = by (onward (good-after before) k (lines t y before) w call _ (keep (good-after before) call .made))
             where
               by : Onward t k (lines t y before) call (answered t (stateAfter t y before) call) → Tells t (stateAfter t y (call ∷ before)) k (lines t y (call ∷ before)) ⊎ (hasEnded t k (lines t y (call ∷ before)) ≡ true)
               by (inl x) = inl x
@@ -69,18 +69,18 @@ module _ (t : Table) (passed : Passed t) where
     start-is : start t now ≡ empty (tick now)
     start-is = ap (λ (x : Start). x .state) (fresh-passed t (tick now) (passed .verdict))
 
-    start-good : Good t passed (start t now)
-    start-good = subst (Good t passed) (sym start-is) (fresh-good t passed now small)
+    start-good : Good passed (start t now)
+    start-good = subst (Good passed) (sym start-is) (fresh-good passed now small)
 
     -- the state after some calls
     abbrev at : List Call → State
     at calls = stateAfter t (start t now) calls
 
-    at-good : (calls : List Call) → Good t passed (at calls)
+    at-good : (calls : List Call) → Good passed (at calls)
     at-good = good-after (start t now) start-good
 
     made : (calls : List Call) (call : Call) → Made t (at calls) call (answered t (at calls) call)
-    made calls call = keep t passed (at calls) (at-good calls) call .made
+    made calls call = keep (at-good calls) call .made
 
     -- a release that was answered 0 was taken
     begun : (before : List Call) (k : ℕ) → TakenOn t now before k → Tells t (stateTaken t now before k) k []
@@ -91,13 +91,13 @@ module _ (t : Table) (passed : Passed t) where
         go (takes-on p c l f e) =
             let same : k ≡ p = ap positionOf c in
             subst (λ (x : State). Tells t x k []) (sym (ap (λ (a : Answer). a .state) e ∙ ap (releasedAt t (at before)) (sym same)))
-            (begins t passed (at before) (at-good before) k (omega arith))
+            (begins (at-good before) k (omega arith))
         go (chooses c e) = absurd (false≢true (sym (ap isRelease c)))
         go (idles c r f e) = absurd (false≢true (sym (ap isRelease c)))
         go (runs p said c r l f e) = absurd (false≢true (sym (ap isRelease c)))
 
-    taken-good : (before : List Call) (k : ℕ) → Good t passed (stateTaken t now before k)
-    taken-good before k = keep t passed (at before) (at-good before) (release k) .kept
+    taken-good : (before : List Call) (k : ℕ) → Good passed (stateTaken t now before k)
+    taken-good before k = keep (at-good before) (release k) .kept
 
     tracked : (before : List Call) (k : ℕ) → TakenOn t now before k → (later : List Call)
         → Tells t (stateAfter t (stateTaken t now before k) later) k (since t now before k later) ⊎ (hasEnded t k (since t now before k later) ≡ true)
@@ -168,12 +168,12 @@ module _ (t : Table) (passed : Passed t) where
     whose : (calls : List Call) → jobAt (at now small calls) k .pending ≡ true → Whose calls
     unfolding lines
     whose [] p = absurd (false≢true (sym (ap (λ (s : State). jobAt s k .pending) (start-is now small) ∙ ap (λ (j : Job). j .pending) (empty-job (tick now) k)) ∙ p))
-    whose (call ∷ earlier) p = go (was-pending t passed s good k call a (made now small earlier call) p) (whose earlier)
+    whose (call ∷ earlier) p = go (was-pending good k call a (made now small earlier call) p) (whose earlier)
       where
         s : State
         s = at now small earlier
 
-        good : Good t passed s
+        good : Good passed s
         good = at-good now small earlier
 
         a : Answer
@@ -196,7 +196,7 @@ module _ (t : Table) (passed : Passed t) where
             same = ap (λ (c : Call). answered t s c .state) (sym (w .0))
         go (inl q) older =
             let o : Whose earlier = older q in
-            on o (onward t passed s good k (since t now (o .before) k (o .later)) (o .tells) call a (made now small earlier call))
+            on o (onward good k (since t now (o .before) k (o .later)) (o .tells) call a (made now small earlier call))
           where
             on : (o : Whose earlier) → Onward t k (since t now (o .before) k (o .later)) call a → Whose (call ∷ earlier)
             on o (inr x) = absurd (false≢true (sym (x .1) ∙ p))
@@ -230,7 +230,7 @@ module _ (t : Table) (passed : Passed t) where
           let w = whose now small k calls p in
           let good = at-good now small calls in
           let tells = w .tells in
-          let inside = Rattle.promise.proofs.Edge.View.inside t (passes t passed) s (good .stands) k p in (
+          let inside = Rattle.promise.proofs.Edge.View.inside (passes passed) (good .stands) k p in (
             w .before,
             w .later,
             w .split,
@@ -255,7 +255,7 @@ module _ (t : Table) (passed : Passed t) where
   -- ---- the others
 
   always-on : GoesOn t
-  always-on now small calls = goes-on t passed (at now small calls) (at-good now small calls)
+  always-on now small calls = goes-on (at-good now small calls)
 
   one-job : OneJob t
   one-job now small before k zero later again = go (tracked now small before k zero later)
@@ -265,7 +265,7 @@ module _ (t : Table) (passed : Passed t) where
 
       go : Tells t s k (since t now before k later) ⊎ (hasEnded t k (since t now before k later) ≡ true) → hasEnded t k (since t now before k later) ≡ true
       go (inr e) = e
-      go (inl w) = by (keep t passed s (good-after (stateTaken t now before k) (taken-good now small before k) later) (release k) .made)
+      go (inl w) = by (keep (good-after (stateTaken t now before k) (taken-good now small before k) later) (release k) .made)
         where
           by : Made t s (release k) (answered t s (release k)) → hasEnded t k (since t now before k later) ≡ true
           by (refused n l e) = absurd (omega (arith, l, again, ap (λ (a : Answer). a .number) e))
@@ -276,10 +276,10 @@ module _ (t : Table) (passed : Passed t) where
 
 pub promise : Promise
 promise t passed = record {
-  inTime = jobs-in-time t passed;
-  finished = jobs-finished t passed;
-  withinLimits = ticks-given t passed;
-  byNoRefusal = calls-answered t passed;
-  goesOn = always-on t passed;
-  oneJob = one-job t passed;
+  inTime = jobs-in-time passed;
+  finished = jobs-finished passed;
+  withinLimits = ticks-given passed;
+  byNoRefusal = calls-answered passed;
+  goesOn = always-on passed;
+  oneJob = one-job passed;
 }

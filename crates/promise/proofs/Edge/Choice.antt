@@ -45,15 +45,15 @@ further : (now d e j k : ℕ) → j < 256 → k < 256 → place now d j ≤ plac
 further now d e j k l m h = omega (arith, place-distance now d j l, place-distance now e k m)
 
 -- some job is pending: who runs is at `at`, top at `first`
-module _ (t : Table) (passed : Passed t) (s : State) (good : Good t passed s) (some : top s < noPlace) where
+module _ {t : Table} {passed : Passed t} {s : State} (good : Good passed s) (some : top s < noPlace) where
   abbrev ready : Ready t s
-  ready = is-ready t passed s good
+  ready = is-ready good
 
   abbrev few : t .count ≤ 16
-  few = passes t passed .count .high
+  few = passes passed .count .high
 
   abbrev seen : Lawful (tasks t) (view t s)
-  seen = sees t passed s (good .stands)
+  seen = sees passed (good .stands)
 
   abbrev now : ℕ
   now = s .tick .0
@@ -99,8 +99,8 @@ module _ (t : Table) (passed : Passed t) (s : State) (good : Good t passed s) (s
 
   first-first : (k : ℕ) → jobAt s k .pending ≡ true → (k ≡ first) ⊎ (placeAt s first < placeAt s k)
   first-first k p =
-      let l = below-16 t (passes t passed) s (good .stands) k p in
-      other-place t (passes t passed) s (good .stands) first k (first-is .0) l (omega (arith, first-le s isPending k l p, first-is .2))
+      let l = below-16 (passes passed) (good .stands) k p in
+      other-place (passes passed) (good .stands) first k (first-is .0) l (omega (arith, first-le s isPending k l p, first-is .2))
 
   -- a runner elsewhere is at another place
   not-first : at ≢ first → runner t s ≡ top s → ⊥
@@ -112,15 +112,15 @@ module _ (t : Table) (passed : Passed t) (s : State) (good : Good t passed s) (s
   free h e k p n = go (bars (ceilings t) (D t first) (jobAt s k .held)) refl
     where
       go : (b : Bool) → bars (ceilings t) (D t first) (jobAt s k .held) ≡ b → left t (taskAt t k) (D t first) (jobAt s k .held) ≡ 0
-      go true f = absurd (false≢true (sym h ∙ blocked-holds t s first e k (below-16 t (passes t passed) s (good .stands) k p, f, p, n)))
+      go true f = absurd (false≢true (sym h ∙ blocked-holds t s first e k (below-16 (passes passed) (good .stands) k p, f, p, n)))
       go false f = left-unbarred t (taskAt t k) (D t first) (jobAt s k .held) f
 
   started-first : blocked t s first ≡ true → (k : ℕ) → jobAt s k .started ≡ true → (k ≡ at) ⊎ (placeAt s at < placeAt s k)
   started-first h k e =
       let p = seen .started-pending k e in
-      let l = below-16 t (passes t passed) s (good .stands) k p in
+      let l = below-16 (passes passed) (good .stands) k p in
       let test : (jobAt s k .pending && jobAt s k .started) ≡ true = rw (p, e) refl in
-      other-place t (passes t passed) s (good .stands) at k (Law.runner-below-16 t s ready some) l
+      other-place (passes passed) (good .stands) at k (Law.runner-below-16 t s ready some) l
       (omega (arith, first-le s isStarted k l test, runner-blocked t s h, Law.runner-place t s ready some))
 
   blocks : blocked t s first ≡ true → Core.Blocked (tasks t) (view t s) at first
@@ -132,7 +132,7 @@ module _ (t : Table) (passed : Passed t) (s : State) (good : Good t passed s) (s
         holder = k;
         holder-pending = g .2;
         holder-other = g .3;
-        holder-left = left-barred t (taskAt t k) (D t first) (jobAt s k .held) (good .stands .jobs k (inside t (passes t passed) s (good .stands) k (g .2)) .section) (g .1);
+        holder-left = left-barred t (taskAt t k) (D t first) (jobAt s k .held) (good .stands .jobs k (inside (passes passed) (good .stands) k (g .2)) .section) (g .1);
         started = runs-started t s ready some h;
         first = started-first h;
       }
@@ -151,7 +151,7 @@ module _ (t : Table) (passed : Passed t) (s : State) (good : Good t passed s) (s
   -- ---- the mark: L4
 
   inside-16 : (k : ℕ) → holdsAny (jobAt s k .held) ≡ true → k < 16
-  inside-16 k h = let l = seen in below-16 t (passes t passed) s (good .stands) k (l .started-pending k (l .holds-started k h))
+  inside-16 k h = let l = seen in below-16 (passes passed) (good .stands) k (l .started-pending k (l .holds-started k h))
 
   holder : (k : ℕ) → holdsAny (jobAt s k .held) ≡ true → isHolder (jobAt s k) ≡ true
   holder k h = let l = seen in rw (h, l .started-pending k (l .holds-started k h)) refl
@@ -243,5 +243,5 @@ module _ (t : Table) (passed : Passed t) (s : State) (good : Good t passed s) (s
     marked = λ n. marked-as (marks n);
     fast = λ n j k p o l low high.
         given-more _ (turn t s .speed)
-        (Law.speed-between t s ready some (not-first n) j k (below-16 t (passes t passed) s (good .stands) j p) p (omega (arith, Law.runner-place t s ready some)) l low high);
+        (Law.speed-between t s ready some (not-first n) j k (below-16 (passes passed) (good .stands) j p) p (omega (arith, Law.runner-place t s ready some)) l low high);
   }

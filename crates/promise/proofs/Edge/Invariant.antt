@@ -1,14 +1,13 @@
 -- The invariant of a history's states; it makes them consistent, and a fresh start has it. Assumes nothing.
 use Prim.Native.Nat.{ℕ, _^_, _≤_, _<_}
 use mathlib.Core.Path.{_≡_, sym, ap, _∙_}
-use mathlib.Core.Bool.{Bool, true, false, false≢true}
+use mathlib.Core.Bool.{true, false≢true}
 use native.Mathlib.Decide.{decLt}
 use lib.ListN.{length}
 use Rattle.units.specs.Clock.{tick}
 use Rattle.table.specs.declared.Table.{Table}
 use Rattle.admission.proofs.Laws.Admitted.{Admitted, admitted}
 use Rattle.state.specs.declared.Job.{Job}
-use Rattle.state.specs.declared.Half.{Half}
 use Rattle.state.specs.declared.Half.the-variants.{First, Second}
 use Rattle.state.specs.declared.Runner.the-variants as Runs
 use Rattle.state.specs.declared.State.{State}
@@ -16,6 +15,7 @@ use Rattle.state.specs.State.{noJob, jobAt, empty}
 use Rattle.state.proofs.Laws.Fresh.{no-more, empty-is, empty-long, empty-job}
 use Rattle.choice.proofs.Laws.Ready.{Ready}
 use Rattle.consistency.specs.Consistency.{consistent}
+use Rattle.machine.specs.Machine.{midTick}
 use Rattle.consistency.proofs.Laws.Facts.{Unchanged, Consistent, consistent-tells, consistent-holds, fresh-consistent}
 use Rattle.consistency.proofs.Laws.Middle.{ready}
 use Rattle.promise.specs.Promise.{Passed}
@@ -38,7 +38,7 @@ consistent-stands t s c long now = record {
     past k l (yes h) = c .past k l h
     past k l (no h) = no-more s k long h
 
-module _ (t : Table) (passed : Passed t) where
+module _ {t : Table} (passed : Passed t) where
   pub passes : Admitted t
   passes = admitted t (passed .verdict)
 
@@ -52,47 +52,17 @@ module _ (t : Table) (passed : Passed t) where
     pub first : s .half ≡ First → (s .runner ≡ Runs.Nobody) × Nearer (tasks t) (view t s)
     pub second : s .half ≡ Second → Unchanged t s
 
-  module _ (s : State) where
-    pub sees : Stands t s → Lawful (tasks t) (view t s)
-    sees stands = lawful t passes s stands (passed .limits)
+  pub sees : {s : State} → Stands t s → Lawful (tasks t) (view t s)
+  sees stands = lawful passes stands (passed .limits)
 
-    module _ (good : Good s) where
-      pub facts : Consistent t s
-      facts = record {
-        passes = passed .verdict;
-        jobs = λ k l. let j = good .stands .jobs k l in record {
-          wait = j .wait;
-          unstarted = j .unstarted;
-          section = j .section;
-          pending = λ e. let n = good .mid .numbers in record { used = n .used-C k e; ahead = n .distance-some k e; near = n .distance-D k e; wait = n .wait-is k e };
-          absent = j .absent;
-        };
-        past = λ k l b. good .stands .past k l;
-        once = good .stands .once;
-        mark = good .stands .mark;
-        first = λ e. good .first e .0;
-        second = good .second;
-      }
-
-      -- number 9 never comes
-      pub is-consistent : consistent t s ≡ true
-      is-consistent = consistent-holds t s facts
-
-      pub is-ready : Ready t s
-      is-ready = ready t s facts (good .stands .long) (good .stands .now)
-
-    -- between ticks
-    pub rests : Stands t s → s .half ≡ First → s .runner ≡ Runs.Nobody → Between (tasks t) (view t s) → Good s
-    rests stands h r b = record {
-      stands = stands;
-      mid = b .midway;
-      first = λ e. (r, b .nearer);
-      second = λ e. absurd (false≢true (ap isSecond (sym h ∙ e)));
-    }
-      where
-        isSecond : Half → Bool
-        isSecond First = false
-        isSecond Second = true
+  -- between ticks
+  pub rests : (s : State) → Stands t s → s .half ≡ First → s .runner ≡ Runs.Nobody → Between (tasks t) (view t s) → Good s
+  rests s stands h r b = record {
+    stands = stands;
+    mid = b .midway;
+    first = λ e. (r, b .nearer);
+    second = λ e. absurd (false≢true (ap midTick (sym h ∙ e)));
+  }
 
   -- a fresh start
   module _ (now : ℕ) (small : now < 2 ^ 32) where
@@ -110,4 +80,30 @@ module _ (t : Table) (passed : Passed t) where
     pub fresh-good : Good fresh-state
     fresh-good =
         rests fresh-state fresh-stands (ap (λ (s : State). s .half) (empty-is (tick now))) (ap (λ (s : State). s .runner) (empty-is (tick now)))
-        (fresh (tasks t) (view t fresh-state) (sees fresh-state fresh-stands) nobody)
+        (fresh (tasks t) (view t fresh-state) (sees fresh-stands) nobody)
+
+-- a good state is consistent
+module _ {t : Table} {passed : Passed t} {s : State} (good : Good passed s) where
+  facts : Consistent t s
+  facts = record {
+    passes = passed .verdict;
+    jobs = λ k l. let j = good .stands .jobs k l in record {
+      wait = j .wait;
+      unstarted = j .unstarted;
+      section = j .section;
+      pending = λ e. let n = good .mid .numbers in record { used = n .used-C k e; ahead = n .distance-some k e; near = n .distance-D k e; wait = n .wait-is k e };
+      absent = j .absent;
+    };
+    past = λ k l b. good .stands .past k l;
+    once = good .stands .once;
+    mark = good .stands .mark;
+    first = λ e. good .first e .0;
+    second = good .second;
+  }
+
+  -- number 9 never comes
+  pub is-consistent : consistent t s ≡ true
+  is-consistent = consistent-holds t s facts
+
+  pub is-ready : Ready t s
+  is-ready = ready t s facts (good .stands .long) (good .stands .now)

@@ -24,7 +24,7 @@ use Rattle.promise.proofs.Core.Release as Core
 use Rattle.promise.proofs.Core.View.{Same}
 use Rattle.promise.proofs.Edge.View.{tasks, left, view, JobStands, Stands}
 
-module _ (t : Table) (a : Admitted t) (s : State) (stands : Stands t s) (p : ℕ) (inside : p < t .count) (ready : jobAt s p .wait .0 ≤ 0) where
+module _ {t : Table} (a : Admitted t) {s : State} (stands : Stands t s) (p : ℕ) (inside : p < t .count) (ready : jobAt s p .wait .0 ≤ 0) where
   abbrev next : State
   next = releasedAt t s p
 

@@ -60,7 +60,7 @@ module _ (s : State) (now : s .tick .0 < Prim.Native.Nat._^_ 2 32) (ahead : mark
       let l : 1 ≤ Clock.distance (s .tick .0) (m .deadline .0) = rw e at (ahead (ap marked e)) in
       record { position = w .position; ahead = omega (arith, w .ahead, distance-next (s .tick .0) (m .deadline .0) now l) }
 
-module _ (t : Table) (a : Admitted t) (s : State) (stands : Stands t s) (mid : Midway (tasks t) (view t s))
+module _ {t : Table} (a : Admitted t) {s : State} (stands : Stands t s) (mid : Midway (tasks t) (view t s))
     (ahead : marked (s .mark) ≡ true → 1 ≤ markDistance (s .tick .0) (s .mark))
     (p v : ℕ) (inside : p < t .count) (there : jobAt s p .pending ≡ true) (n : Job) (after : After t (taskAt t p) v (jobAt s p) n (Free s)) where
   abbrev next : State
@@ -149,7 +149,7 @@ module _ (t : Table) (a : Admitted t) (s : State) (stands : Stands t s) (mid : M
       )
 
   below : (k : ℕ) → jobAt next k .pending ≡ true → k < 16
-  below k h = below-16 t a s stands k (was k h .0)
+  below k h = below-16 a stands k (was k h .0)
 
   wait : (k : ℕ) → jobAt next k .wait .0 ≡ jobAt s k .wait .0 - 1
   wait k = go (ℕ-discrete k p)

@@ -127,7 +127,7 @@ module _ (t : Table) (task : Task) where
 abbrev pub Eight : Table → Type 0
 Eight t = (k : ℕ) → k < t .count → length (taskAt t k .limits) ≡ 8
 
-module _ (t : Table) (a : Admitted t) (s : State) (stands : Stands t s) where
+module _ {t : Table} (a : Admitted t) {s : State} (stands : Stands t s) where
   pub inside : (k : ℕ) → jobAt s k .pending ≡ true → k < t .count
   inside k p = go (decLt k (t .count))
     where

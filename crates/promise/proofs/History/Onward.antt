@@ -38,9 +38,9 @@ use Rattle.promise.proofs.Keep.Made.{Made, refused, takes-on, chooses, 
 use Rattle.promise.proofs.History.Tells.{Tells, Onward, quiet, foreign, no-number}
 use Rattle.promise.proofs.History.Own.{own-tick}
 
-module _ (t : Table) (passed : Passed t) (s : State) (good : Good t passed s) (k : ℕ) (h : List Line) (w : Tells t s k h) where
+module _ {t : Table} {passed : Passed t} {s : State} (good : Good passed s) (k : ℕ) (h : List Line) (w : Tells t s k h) where
   below : k < 16
-  below = below-16 t (passes t passed) s (good .stands) k (w .pending)
+  below = below-16 (passes passed) (good .stands) k (w .pending)
 
   some : top s < noPlace
   some = omega (arith, first-le s isPending k below (w .pending), place-lt (s .tick .0) (jobAt s k .deadline .0) k (omega (arith, below)))
@@ -52,7 +52,7 @@ module _ (t : Table) (passed : Passed t) (s : State) (good : Good t passed s) (k
       omega (arith, ap (distance (after (s .tick .0) 1)) e, distance-next (s .tick .0) (jobAt s k .deadline .0) (good .stands .now) l)
 
   kept : {A : Type 0} (f : Job → A) → ((j : Job) → f (begun j) ≡ f j) → f (jobAt (choice t s .state) k) ≡ f (jobAt s k)
-  kept f e = ap (λ (x : State). f (jobAt x k)) (Law.choice-is t s) ∙ Chosen.kept t passed s good some f e k
+  kept f e = ap (λ (x : State). f (jobAt x k)) (Law.choice-is t s) ∙ Chosen.kept good some f e k
 
   on-choice : Onward t k h choose (chosen (choice t s))
   on-choice =
@@ -100,18 +100,18 @@ module _ (t : Table) (passed : Passed t) (s : State) (good : Good t passed s) (k
   onward call a (runs p said c r l f e) = made-as c e (on-tick said p r (ℕ-discrete k p))
 
 -- a release that is taken begins it
-module _ (t : Table) (passed : Passed t) (s : State) (good : Good t passed s) (k : ℕ) (inside : k < t .count) where
+module _ {t : Table} {passed : Passed t} {s : State} (good : Good passed s) (k : ℕ) (inside : k < t .count) where
   pub begins : Tells t (releasedAt t s k) k []
   unfolding ticksClosed stepsGiven section hasEnded
   begins =
-      let new : jobAt (releasedAt t s k) k ≡ released (taskAt t k) (s .tick .0) = released-job t s k (omega (arith, passes t passed .count .high, good .stands .long)) in
+      let new : jobAt (releasedAt t s k) k ≡ released (taskAt t k) (s .tick .0) = released-job t s k (omega (arith, passes passed .count .high, good .stands .long)) in
       record {
         pending = ap (λ (j : Job). j .pending) new;
         near =
             omega (
               arith,
               ap (λ (j : Job). distance (s .tick .0) (j .deadline .0)) new,
-              distance-after (s .tick .0) (D t k) (good .stands .now) (omega (arith, passes t passed .ranges k inside)),
+              distance-after (s .tick .0) (D t k) (good .stands .now) (omega (arith, passes passed .ranges k inside)),
             );
         used = ap (λ (j : Job). j .used .0) new;
         held = ap (λ (j : Job). j .held) new;

@@ -25,7 +25,7 @@ use Rattle.promise.proofs.Edge.Invariant.{Good}
 use Rattle.promise.proofs.Keep.Made.{Made, refused, takes-on, chooses, idles, runs}
 
 -- a job that is pending after a call was so before, or the call took it on
-module _ (t : Table) (passed : Passed t) (s : State) (good : Good t passed s) (k : ℕ) where
+module _ {t : Table} {passed : Passed t} {s : State} (good : Good passed s) (k : ℕ) where
   abbrev Was : Call → Answer → Type 0
   Was call a = (jobAt s k .pending ≡ true) ⊎ ((call ≡ release k) × (a .number ≡ 0))
 
@@ -33,7 +33,7 @@ module _ (t : Table) (passed : Passed t) (s : State) (good : Good t passed s) (k
   was-same call a e f p = inl (sym (ap (λ (j : Job). j .pending) e ∙ f) ∙ p)
 
   chosen-pending : Dec (top s < noPlace) → jobAt (choice t s .state) k .pending ≡ jobAt s k .pending
-  chosen-pending (yes l) = ap (λ (x : State). jobAt x k .pending) (Law.choice-is t s) ∙ Chosen.kept t passed s good l (λ j. j .pending) (λ j. refl) k
+  chosen-pending (yes l) = ap (λ (x : State). jobAt x k .pending) (Law.choice-is t s) ∙ Chosen.kept good l (λ j. j .pending) (λ j. refl) k
   chosen-pending (no l) = ap (λ (jobs : List Job). getD jobs k noJob .pending) (Law.idle-jobs t s (omega arith))
 
   pub was-pending : (call : Call) (a : Answer) → Made t s call a → jobAt (a .state) k .pending ≡ true → Was call a

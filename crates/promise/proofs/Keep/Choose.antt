@@ -36,7 +36,7 @@ use Rattle.promise.proofs.Edge.Choice as Chosen
 use Rattle.promise.proofs.Edge.Invariant.{passes, Good, sees, is-ready}
 use Rattle.promise.proofs.Keep.Made.{chooses, Next, refuses, steady, middle, between}
 
-module _ (t : Table) (passed : Passed t) (s : State) (good : Good t passed s) where
+module _ {t : Table} {passed : Passed t} {s : State} (good : Good passed s) where
   -- in mid-tick the state is what the choice made of it
   abbrev pub picked : State
   picked = Chosen.chosenState t s
@@ -47,9 +47,9 @@ module _ (t : Table) (passed : Passed t) (s : State) (good : Good t passed s) wh
   picked-second : Stands t picked → Unchanged t picked
   picked-second stands =
       same-again t picked refl (stands .long)
-      (subst (λ (x : State). choice t x .state ≡ x) picked-is (choice-again t s (is-ready t passed s good)))
+      (subst (λ (x : State). choice t x .state ≡ x) picked-is (choice-again t s (is-ready good)))
 
-  picks : Stands t picked → Midway (tasks t) (view t picked) → Good t passed picked
+  picks : Stands t picked → Midway (tasks t) (view t picked) → Good passed picked
   picks stands mid = record {
     stands = stands;
     mid = mid;
@@ -60,17 +60,17 @@ module _ (t : Table) (passed : Passed t) (s : State) (good : Good t passed s) wh
   -- some job is pending
   module _ (some : top s < noPlace) where
     abbrev pub at : ℕ
-    at = Chosen.at t passed s good some
+    at = Chosen.at good some
 
     abbrev pub first : ℕ
-    first = Chosen.first t passed s good some
+    first = Chosen.first good some
 
     pub chosen-as : CoreChoice.Chosen (tasks t) (view t s) (view t picked) at first (given (turn t s .speed))
-    chosen-as = Chosen.chosen t passed s good some
+    chosen-as = Chosen.chosen good some
 
     job-stands : (k : ℕ) → k < t .count → Dec (k ≡ at) → JobStands (taskAt t k) (jobAt picked k)
-    job-stands k l (no e) = rw (Chosen.next-other t passed s good some k e) (good .stands .jobs k l)
-    job-stands k l (yes e) = rw (e, Chosen.next-runner t passed s good some) record {
+    job-stands k l (no e) = rw (Chosen.next-other good some k e) (good .stands .jobs k l)
+    job-stands k l (yes e) = rw (e, Chosen.next-runner good some) record {
       wait = good .stands .jobs at (rw (← e) l) .wait;
       unstarted = λ h. absurd (false≢true (sym h));
       section = good .stands .jobs at (rw (← e) l) .section;
@@ -78,31 +78,31 @@ module _ (t : Table) (passed : Passed t) (s : State) (good : Good t passed s) wh
     }
 
     held-from : (k : ℕ) (x : Section) → jobAt picked k .held ≡ In x → jobAt s k .held ≡ In x
-    held-from k x e = sym (Chosen.kept t passed s good some (λ j. j .held) (λ j. refl) k) ∙ e
+    held-from k x e = sym (Chosen.kept good some (λ j. j .held) (λ j. refl) k) ∙ e
 
     at-inside : at < t .count
-    at-inside = inside t (passes t passed) s (good .stands) at (chosen-as .pending)
+    at-inside = inside (passes passed) (good .stands) at (chosen-as .pending)
 
     picked-stands : Stands t picked
     picked-stands = record {
       long = sym (ap (λ (x : State). length (x .jobs)) picked-is) ∙ Law.choice-long t s ∙ good .stands .long;
       now = good .stands .now;
       jobs = λ k l. job-stands k l (ℕ-discrete k at);
-      past = λ k l. Chosen.next-other t passed s good some k (λ e. omega (arith, at-inside)) ∙ good .stands .past k l;
+      past = λ k l. Chosen.next-other good some k (λ e. omega (arith, at-inside)) ∙ good .stands .past k l;
       once = λ i j x y l m e f r. good .stands .once i j x y l m (held-from i x e) (held-from j y f) r;
-      mark = Chosen.mark-fits t passed s good some;
+      mark = Chosen.mark-fits good some;
     }
 
-    picked-good : Good t passed picked
+    picked-good : Good passed picked
     picked-good =
         picks picked-stands
-        (CoreChoice.choose (tasks t) (view t s) (view t picked) (sees t passed s (good .stands)) at first (given (turn t s .speed)) chosen-as (good .mid))
+        (CoreChoice.choose (tasks t) (view t s) (view t picked) (sees passed (good .stands)) at first (given (turn t s .speed)) chosen-as (good .mid))
 
   -- no job is pending
   module _ (none : noPlace ≤ top s) where
     pub nobody-pending : (k : ℕ) → jobAt s k .pending ≡ true → ⊥
     nobody-pending k p =
-        let l = below-16 t (passes t passed) s (good .stands) k p in
+        let l = below-16 (passes passed) (good .stands) k p in
         omega (arith, first-le s isPending k l p, place-lt (s .tick .0) (jobAt s k .deadline .0) k (omega arith))
 
     -- the same jobs, and no mark
@@ -123,21 +123,21 @@ module _ (t : Table) (passed : Passed t) (s : State) (good : Good t passed s) wh
       mark = λ m e. absurd (false≢true (ap marked e));
     }
 
-    idle-good : Good t passed picked
+    idle-good : Good passed picked
     idle-good =
         picks (subst (Stands t) (sym idle-is) idle-stands)
         (subst (λ (x : State). Midway (tasks t) (view t x)) (sym idle-is)
-        (fresh (tasks t) (view t idle-state) (sees t passed idle-state idle-stands) nobody-pending .midway))
+        (fresh (tasks t) (view t idle-state) (sees passed idle-stands) nobody-pending .midway))
 
-  pub keep-choose : Next t passed s good choose (answered t s choose)
+  pub keep-choose : Next good choose (answered t s choose)
   keep-choose = go (s .half) refl
     where
-      good-pick : Dec (top s < noPlace) → Good t passed picked
+      good-pick : Dec (top s < noPlace) → Good passed picked
       good-pick (yes l) = picked-good l
       good-pick (no l) = idle-good (omega arith)
 
-      go : (h : Half) → s .half ≡ h → Next t passed s good choose (answered t s choose)
-      go Second h = refuses t passed s good choose _ 11 (omega arith) (Calls.choose-11 t s (steady t passed s good) (middle t passed s good h))
+      go : (h : Half) → s .half ≡ h → Next good choose (answered t s choose)
+      go Second h = refuses good choose _ 11 (omega arith) (Calls.choose-11 t s (steady good) (middle good h))
       go First h =
-          rw (Calls.choose-runs t s (steady t passed s good) (between t passed s good h))
+          rw (Calls.choose-runs t s (steady good) (between good h))
           record { kept = rw picked-is (good-pick (decLt (top s) noPlace)); made = chooses refl refl }

@@ -23,25 +23,25 @@ use Rattle.promise.proofs.Keep.Choose.{keep-choose}
 use Rattle.promise.proofs.Keep.Idle.{idle-goes-on, keep-idle}
 use Rattle.promise.proofs.Keep.Run.{run-goes-on, keep-run}
 
-module _ (t : Table) (passed : Passed t) (s : State) (good : Good t passed s) where
-  keep-report : (said : Report) → Next t passed s good (report said) (answered t s (report said))
+module _ {t : Table} {passed : Passed t} {s : State} (good : Good passed s) where
+  keep-report : (said : Report) → Next good (report said) (answered t s (report said))
   keep-report said = go (s .half) refl (turn t s .runner) refl
     where
-      go : (h : Half) → s .half ≡ h → (r : Runner) → turn t s .runner ≡ r → Next t passed s good (report said) (answered t s (report said))
-      go First h r e = refuses t passed s good (report said) _ 11 (omega arith) (Calls.report-11 t s (steady t passed s good) said (between t passed s good h))
-      go Second h Runs.Nobody e = keep-idle t passed s good h e said
-      go Second h (Runs.Job p) e = keep-run t passed s good h p e said
+      go : (h : Half) → s .half ≡ h → (r : Runner) → turn t s .runner ≡ r → Next good (report said) (answered t s (report said))
+      go First h r e = refuses good (report said) _ 11 (omega arith) (Calls.report-11 t s (steady good) said (between good h))
+      go Second h Runs.Nobody e = keep-idle good h e said
+      go Second h (Runs.Job p) e = keep-run good h p e said
 
   -- at every place a tick can be begun, or closed
   pub goes-on : (answered t s choose .number ≡ 0) ⊎ (answered t s (report CarryOn) .number ≡ 0)
   goes-on = go (s .half) refl (turn t s .runner) refl
     where
       go : (h : Half) → s .half ≡ h → (r : Runner) → turn t s .runner ≡ r → (answered t s choose .number ≡ 0) ⊎ (answered t s (report CarryOn) .number ≡ 0)
-      go First h r e = inl (ap (λ (a : Answer). a .number) (Calls.choose-runs t s (steady t passed s good) (between t passed s good h)))
-      go Second h Runs.Nobody e = inr (idle-goes-on t passed s good h e)
-      go Second h (Runs.Job p) e = inr (run-goes-on t passed s good h p e)
+      go First h r e = inl (ap (λ (a : Answer). a .number) (Calls.choose-runs t s (steady good) (between good h)))
+      go Second h Runs.Nobody e = inr (idle-goes-on good h e)
+      go Second h (Runs.Job p) e = inr (run-goes-on good h p e)
 
-  pub keep : (call : Call) → Next t passed s good call (answered t s call)
-  keep (release p) = keep-release t passed s good p
-  keep choose = keep-choose t passed s good
+  pub keep : (call : Call) → Next good call (answered t s call)
+  keep (release p) = keep-release good p
+  keep choose = keep-choose good
   keep (report said) = keep-report said

@@ -41,13 +41,13 @@ use Rattle.promise.proofs.Edge.Tick.{waited-stands, next-fits}
 use Rattle.promise.proofs.Keep.Made.{idles, Next, refuses, steady, middle}
 use Rattle.promise.proofs.Keep.Choose.{picked, picked-is, nobody-pending}
 
-module _ (t : Table) (passed : Passed t) (s : State) (good : Good t passed s) (h : s .half ≡ Second) where
+module _ {t : Table} {passed : Passed t} {s : State} (good : Good passed s) (h : s .half ≡ Second) where
   pub same : Unchanged t s
   same = good .second h
 
   -- the state is what the choice makes of it
-  pub again : (picked t passed s good) ≡ s
-  again = sym (picked-is t passed s good) ∙ again-same t s h same
+  pub again : (picked good) ≡ s
+  again = sym (picked-is good) ∙ again-same t s h same
 
   -- nobody runs: nobody is pending
   module _ (idle : turn t s .runner ≡ Runs.Nobody) where
@@ -55,7 +55,7 @@ module _ (t : Table) (passed : Passed t) (s : State) (good : Good t passed s) (h
     none = go (decLt (top s) noPlace)
       where
         go : Dec (top s < noPlace) → noPlace ≤ top s
-        go (yes l) = absurd (nobody (sym idle ∙ Law.runner-is t s (is-ready t passed s good) l))
+        go (yes l) = absurd (nobody (sym idle ∙ Law.runner-is t s (is-ready good) l))
         go (no l) = omega arith
 
     abbrev passed-by : State
@@ -65,7 +65,7 @@ module _ (t : Table) (passed : Passed t) (s : State) (good : Good t passed s) (h
     passed-job = closed-at s (s .jobs)
 
     passed-nobody : (k : ℕ) → jobAt passed-by k .pending ≡ true → ⊥
-    passed-nobody k p = nobody-pending t passed s good none k (sym (ap (λ (j : Job). j .pending) (passed-job k)) ∙ p)
+    passed-nobody k p = nobody-pending good none k (sym (ap (λ (j : Job). j .pending) (passed-job k)) ∙ p)
 
     no-mark : marked (s .mark) ≡ true → ⊥
     no-mark e = false≢true (ap marked (sym (ap (λ (u : Turn). u .mark) (Law.idle-turn t s none)) ∙ same .mark) ∙ e)
@@ -83,23 +83,23 @@ module _ (t : Table) (passed : Passed t) (s : State) (good : Good t passed s) (h
       mark = next-fits s (good .stands .now) (λ e. absurd (no-mark e)) t (good .stands .mark);
     }
 
-    passed-good : Good t passed passed-by
+    passed-good : Good passed passed-by
     passed-good =
-        rests t passed passed-by passed-stands refl refl
-        (fresh (tasks t) (view t passed-by) (sees t passed passed-by passed-stands) passed-nobody)
+        rests passed passed-by passed-stands refl refl
+        (fresh (tasks t) (view t passed-by) (sees passed passed-stands) passed-nobody)
 
     answer : answered t s (report CarryOn) ≡ taken-answer s (s .jobs) (turn t s) 0
     answer =
-        Calls.report-runs t s (steady t passed s good) CarryOn (middle t passed s good h)
+        Calls.report-runs t s (steady good) CarryOn (middle good h)
         ∙ idle-closes t s idle (in-time passed-by (λ k l p. absurd (passed-nobody k p)))
 
     -- the tick can be closed
     pub idle-goes-on : answered t s (report CarryOn) .number ≡ 0
     idle-goes-on = ap (λ (a : Answer). a .number) answer
 
-    pub keep-idle : (said : Report) → Next t passed s good (report said) (answered t s (report said))
+    pub keep-idle : (said : Report) → Next good (report said) (answered t s (report said))
     keep-idle said = go said (idle-objects t s idle said)
       where
-        go : (said : Report) → (said ≡ CarryOn) ⊎ (AtReport.report t s said ≡ bare 14 s) → Next t passed s good (report said) (answered t s (report said))
-        go said (inr e) = refuses t passed s good (report said) _ 14 (omega arith) (Calls.report-runs t s (steady t passed s good) said (middle t passed s good h) ∙ e)
-        go said (inl e) = rw (e, answer) record { kept = passed-good; made = idles refl idle (nobody-pending t passed s good none) refl }
+        go : (said : Report) → (said ≡ CarryOn) ⊎ (AtReport.report t s said ≡ bare 14 s) → Next good (report said) (answered t s (report said))
+        go said (inr e) = refuses good (report said) _ 14 (omega arith) (Calls.report-runs t s (steady good) said (middle good h) ∙ e)
+        go said (inl e) = rw (e, answer) record { kept = passed-good; made = idles refl idle (nobody-pending good none) refl }

@@ -30,17 +30,17 @@ pub data Made (t : Table) (s : State) (call : Call) (a : Answer) : Type 0 where
   runs : (p : ℕ) (said : Report) → call ≡ report said → turn t s .runner ≡ Runs.Job p → p < t .count → jobAt s p .pending ≡ true
       → a ≡ taken-answer s (set (s .jobs) p (outcome t s (turn t s) p said .job)) (turn t s) (outcome t s (turn t s) p said .ending) → Made t s call a
 
-module _ (t : Table) (passed : Passed t) (s : State) (good : Good t passed s) where
+module _ {t : Table} {passed : Passed t} {s : State} (good : Good passed s) where
   -- what a call leads to
   pub record Next (call : Call) (a : Answer) : Type 0 where
-    pub kept : Good t passed (a .state)
+    pub kept : Good passed (a .state)
     pub made : Made t s call a
 
   pub refuses : (call : Call) (a : Answer) (n : ℕ) → (10 ≤ n) × (n ≤ 14) → a ≡ bare n s → Next call a
   refuses call a n l e = record { kept = rw e good; made = refused n l e }
 
   pub steady : consistent t s ≡ true
-  steady = is-consistent t passed s good
+  steady = is-consistent good
 
   pub middle : s .half ≡ Second → midTick (s .half) ≡ true
   middle h = ap midTick h

@@ -47,7 +47,7 @@ use Rattle.promise.proofs.Keep.Made.{runs, Next, refuses, steady, middl
 use Rattle.promise.proofs.Keep.Choose.{at, first, chosen-as}
 use Rattle.promise.proofs.Keep.Idle.{same, again}
 
-module _ (t : Table) (passed : Passed t) (s : State) (good : Good t passed s) (h : s .half ≡ Second) where
+module _ {t : Table} {passed : Passed t} {s : State} (good : Good passed s) (h : s .half ≡ Second) where
   -- the job at p runs
   module _ (p : ℕ) (runs-p : turn t s .runner ≡ Runs.Job p) where
     some : top s < noPlace
@@ -61,21 +61,21 @@ module _ (t : Table) (passed : Passed t) (s : State) (good : Good t passed s) (h
     steps = given (turn t s .speed)
 
     abbrev top-at : ℕ
-    top-at = first t passed s good some
+    top-at = first good some
 
-    at-p : at t passed s good some ≡ p
-    at-p = named (sym (Law.runner-is t s (is-ready t passed s good) some) ∙ runs-p)
+    at-p : at good some ≡ p
+    at-p = named (sym (Law.runner-is t s (is-ready good) some) ∙ runs-p)
 
     runs-as : CoreChoice.Chosen (tasks t) (view t s) (view t s) p top-at steps
     runs-as =
         subst (λ (k : ℕ). CoreChoice.Chosen (tasks t) (view t s) (view t s) k top-at steps) at-p
-        (subst (λ (x : State). CoreChoice.Chosen (tasks t) (view t s) (view t x) (at t passed s good some) top-at steps) (again t passed s good h) (chosen-as t passed s good some))
+        (subst (λ (x : State). CoreChoice.Chosen (tasks t) (view t s) (view t x) (at good some) top-at steps) (again good h) (chosen-as good some))
 
     there : jobAt s p .pending ≡ true
     there = runs-as .pending
 
     within : p < t .count
-    within = inside t (passes t passed) s (good .stands) p there
+    within = inside (passes passed) (good .stands) p there
 
     has-8 : (r : ℕ) → 0 < limit (taskAt t p) r → r < 8
     has-8 r l = takes-one-of-8 (taskAt t p) r (passed .limits p within) l
@@ -92,12 +92,12 @@ module _ (t : Table) (passed : Passed t) (s : State) (good : Good t passed s) (h
         go k x f q =
             omega (
               arith,
-              left-barred t (taskAt t k) (D t p) (jobAt s k .held) (good .stands .jobs k (inside t (passes t passed) s (good .stands) k pending) .section) barred,
+              left-barred t (taskAt t k) (D t p) (jobAt s k .held) (good .stands .jobs k (inside (passes passed) (good .stands) k pending) .section) barred,
               CoreStack.no-15 (tasks t) (view t s) seen p top-at steps runs-as (good .mid) k (D t p) pending other (omega arith),
             )
           where
             seen : Lawful (tasks t) (view t s)
-            seen = sees t passed s (good .stands)
+            seen = sees passed (good .stands)
 
             pending : jobAt s k .pending ≡ true
             pending = seen .started-pending k (seen .holds-started k (ap holdsAny f))
@@ -106,7 +106,7 @@ module _ (t : Table) (passed : Passed t) (s : State) (good : Good t passed s) (h
             other z = false≢true (ap holdsAny (sym e ∙ ap (λ (i : ℕ). jobAt s i .held) (sym z) ∙ f))
 
             low : ceiling t r ≤ D t p
-            low = passes t passed .ceilings p r within l
+            low = passes passed .ceilings p r within l
 
             barred : bars (ceilings t) (D t p) (jobAt s k .held) ≡ true
             barred = ap (bars (ceilings t) (D t p)) f ∙ bars-holds t (D t p) x (rw (← q) (has-8 r l)) (rw (← q) low)
@@ -114,8 +114,8 @@ module _ (t : Table) (passed : Passed t) (s : State) (good : Good t passed s) (h
     -- the mark stands at or behind the runner
     ahead : marked (s .mark) ≡ true → 1 ≤ markDistance (s .tick .0) (s .mark)
     ahead e =
-        let far = Chosen.mark-behind t passed s good some (ap marked (same t passed s good h .mark) ∙ e) in
-        omega (arith, far, ap (markDistance (s .tick .0)) (same t passed s good h .mark), good .mid .numbers .distance-some (at t passed s good some) (chosen-as t passed s good some .pending))
+        let far = Chosen.mark-behind good some (ap marked (same good h .mark) ∙ e) in
+        omega (arith, far, ap (markDistance (s .tick .0)) (same good h .mark), good .mid .numbers .distance-some (at good some) (chosen-as good some .pending))
 
     module _ (said : Report) (fair : Fair (taskAt t p) (jobAt s p) (heldResources s) said) where
       abbrev job : Job
@@ -126,19 +126,19 @@ module _ (t : Table) (passed : Passed t) (s : State) (good : Good t passed s) (h
 
       runner-after : After t (taskAt t p) (turn t s .speed) (jobAt s p) job (Free s)
       runner-after =
-          after t (taskAt t p) (turn t s .speed) (jobAt s p) said (heldResources s) fair (good .stands .jobs p within) (same t passed s good h .begun p (sym (same t passed s good h .runner) ∙ runs-p)) (Free s) free
+          after t (taskAt t p) (turn t s .speed) (jobAt s p) said (heldResources s) fair (good .stands .jobs p within) (same good h .begun p (sym (same good h .runner) ∙ runs-p)) (Free s) free
           (outcome t s (turn t s) p said) (settled-is (taskAt t p) said _)
 
       abbrev next : State
       next = closed s (set (s .jobs) p job)
 
       next-stands : Stands t next
-      next-stands = closed-stands t (passes t passed) s (good .stands) (good .mid) ahead p (turn t s .speed) within there job runner-after
+      next-stands = closed-stands (passes passed) (good .stands) (good .mid) ahead p (turn t s .speed) within there job runner-after
 
       next-between : Between (tasks t) (view t next)
       next-between =
-          CoreTick.tick (tasks t) (task-fits t passed) (view t s) (view t next) (sees t passed s (good .stands)) (sees t passed next next-stands) p top-at steps runs-as
-          (ticked t (passes t passed) s (good .stands) (good .mid) ahead p (turn t s .speed) within there job runner-after) (good .mid)
+          CoreTick.tick (tasks t) (task-fits passed) (view t s) (view t next) (sees passed (good .stands)) (sees passed next-stands) p top-at steps runs-as
+          (ticked (passes passed) (good .stands) (good .mid) ahead p (turn t s .speed) within there job runner-after) (good .mid)
 
       -- number 16: nobody stands at its deadline
       next-in-time : late next ≡ false
@@ -150,26 +150,26 @@ module _ (t : Table) (passed : Passed t) (s : State) (good : Good t passed s) (h
     answer : (said : Report) → number said ≡ 0 → (fair : Fair (taskAt t p) (jobAt s p) (heldResources s) said)
         → answered t s (report said) ≡ taken-answer s (set (s .jobs) p (outcome t s (turn t s) p said .job)) (turn t s) (outcome t s (turn t s) p said .ending)
     answer said e fair =
-        Calls.report-runs t s (steady t passed s good) said (middle t passed s good h) ∙ run-closes t s p runs-p said e (next-in-time said fair)
+        Calls.report-runs t s (steady good) said (middle good h) ∙ run-closes t s p runs-p said e (next-in-time said fair)
 
     -- the tick can be closed
     pub run-goes-on : answered t s (report CarryOn) .number ≡ 0
     run-goes-on = let w = carrying (taskAt t p) (jobAt s p) (heldResources s) in ap (λ (a : Answer). a .number) (answer CarryOn (w .0) (w .1))
 
-    pub keep-run : (said : Report) → Next t passed s good (report said) (answered t s (report said))
+    pub keep-run : (said : Report) → Next good (report said) (answered t s (report said))
     keep-run said = go (objection-is (taskAt t p) (jobAt s p) (heldResources s) said)
       where
-        objects : (10 ≤ number said) × (number said ≤ 14) → Next t passed s good (report said) (answered t s (report said))
+        objects : (10 ≤ number said) × (number said ≤ 14) → Next good (report said) (answered t s (report said))
         objects l =
-            refuses t passed s good (report said) _ (number said) l
-            (Calls.report-runs t s (steady t passed s good) said (middle t passed s good h) ∙ run-objects t s p runs-p said (λ e. omega (arith, l)))
+            refuses good (report said) _ (number said) l
+            (Calls.report-runs t s (steady good) said (middle good h) ∙ run-objects t s p runs-p said (λ e. omega (arith, l)))
 
         go : ((number said ≡ 0) × Fair (taskAt t p) (jobAt s p) (heldResources s) said) ⊎ Objection (taskAt t p) (jobAt s p) (heldResources s) (number said)
-            → Next t passed s good (report said) (answered t s (report said))
+            → Next good (report said) (answered t s (report said))
         go (inr (holding e)) = objects (omega arith)
         go (inr (never e)) = objects (omega arith)
         go (inr (taken r e l f n)) = absurd (none-holds r e l f)
         go (inl w) = rw (answer said (w .0) (w .1)) record {
-          kept = rests t passed (next said (w .1)) (next-stands said (w .1)) refl refl (next-between said (w .1));
+          kept = rests passed (next said (w .1)) (next-stands said (w .1)) refl refl (next-between said (w .1));
           made = runs p said refl runs-p within there refl;
         }
