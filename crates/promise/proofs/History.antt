@@ -2,4 +2,6 @@ pub mod Counts
 pub mod Tells
 pub mod Own
 pub mod Onward
+pub mod Follow
+pub mod Start
 pub mod Whose

@@ -1,7 +1,8 @@
 -- What a call leads to. Assumes nothing.
 use Prim.Native.Nat.{ℕ, _≤_, _<_}
-use mathlib.Core.Path.{_≡_, ap}
-use mathlib.Core.Bool.{true, false}
+use mathlib.Core.Path.{_≡_, sym, ap, _∙_}
+use native.Mathlib.Omega.{arith}
+use mathlib.Core.Bool.{Bool, true, false, false≢true}
 use lib.ListN.{set}
 use Rattle.table.specs.declared.Table.{Table}
 use Rattle.state.specs.declared.Job.{Job}
@@ -47,3 +48,33 @@ module _ {t : Table} {passed : Passed t} {s : State} (good : Good passed s) wher
 
   pub between : s .half ≡ First → midTick (s .half) ≡ false
   between h = ap midTick h
+
+-- ---- a release that was answered 0 took the job on
+
+abbrev positionOf : Call → ℕ
+positionOf (release p) = p
+positionOf choose = 0
+positionOf (report said) = 0
+
+abbrev isRelease : Call → Bool
+isRelease (release p) = true
+isRelease choose = false
+isRelease (report said) = false
+
+pub record Taken (t : Table) (s : State) (k : ℕ) (a : Answer) : Type 0 where
+  pub inside : k < t .count
+  pub absent : jobAt s k .pending ≡ false
+  pub state : a .state ≡ releasedAt t s k
+
+pub taken-on : {t : Table} {s : State} {k : ℕ} {a : Answer} → Made t s (release k) a → a .number ≡ 0 → Taken t s k a
+taken-on (refused n l e) zero = absurd (omega (arith, l, zero, ap (λ (a : Answer). a .number) e))
+taken-on {t} {s} {k} {a} (takes-on p c l f e) zero =
+    let same : p ≡ k = sym (ap positionOf c) in
+    record {
+      inside = omega arith;
+      absent = ap (λ (i : ℕ). jobAt s i .pending) (sym same) ∙ f;
+      state = ap (λ (b : Answer). b .state) e ∙ ap (releasedAt t s) same;
+    }
+taken-on (chooses c e) zero = absurd (false≢true (sym (ap isRelease c)))
+taken-on (idles c r f e) zero = absurd (false≢true (sym (ap isRelease c)))
+taken-on (runs p said c r l f e) zero = absurd (false≢true (sym (ap isRelease c)))
