@@ -5,3 +5,4 @@ pub mod Release
 pub mod Choice
 pub mod Stack
 pub mod Tick
+pub mod Close

@@ -57,7 +57,7 @@ pub record Chosen (tasks : Tasks) (v u : View) (r top steps : ℕ) : Type 0 wher
   -- not top: it gives no less than one at S of any task between a job ahead and the runner
   pub fast : r ≢ top → (j level : ℕ) → v .pending j ≡ true → v .before j r → level < tasks .count → tasks .D j ≤ tasks .D level → tasks .D level ≤ tasks .D r → tasks .S level ≤ steps
 
-module _ (tasks : Tasks) (v u : View) (l : Lawful tasks v) (r top steps : ℕ) (chosen : Chosen tasks v u r top steps) where
+module _ {tasks : Tasks} {v u : View} (l : Lawful tasks v) {r top steps : ℕ} (chosen : Chosen tasks v u r top steps) where
   -- no job is nearer than top
   pub nearest : (j : ℕ) → v .pending j ≡ true → v .distance top ≤ v .distance j
   nearest j p = at (chosen .top-first j p)

@@ -28,7 +28,7 @@ pub record Released (tasks : Tasks) (v u : View) (r : ℕ) : Type 0 where
   pub mark : u .mark ≡ v .mark
   pub markDistance : u .markDistance ≡ v .markDistance
 
-module _ (tasks : Tasks) (fits : Fits tasks) (v u : View) (l : Lawful tasks v) (m : Lawful tasks u) (r : ℕ) (released : Released tasks v u r) (between : Between tasks v) where
+module _ {tasks : Tasks} (fits : Fits tasks) {v u : View} (l : Lawful tasks v) (m : Lawful tasks u) {r : ℕ} (released : Released tasks v u r) (between : Between tasks v) where
   -- no job of r was pending
   idle : v .pending r ≡ false
   idle = at (true-or-false (v .pending r))

@@ -9,7 +9,7 @@ use Rattle.promise.proofs.Core.Demand.{clash}
 use Rattle.promise.proofs.Core.View.{View, Lawful, Shorter, Clear, Midway}
 use Rattle.promise.proofs.Core.Choice.{Blocked, Chosen, runner-first}
 
-module _ (tasks : Tasks) (v u : View) (l : Lawful tasks v) (r top steps : ℕ) (chosen : Chosen tasks v u r top steps) where
+module _ {tasks : Tasks} {v u : View} (l : Lawful tasks v) {r top steps : ℕ} (chosen : Chosen tasks v u r top steps) where
   -- a blocked top is before the runner, and its D is shorter
   pub ahead : Blocked tasks v r top → v .before top r
   ahead w = at (chosen .top-first r (chosen .pending))
@@ -42,13 +42,13 @@ module _ (tasks : Tasks) (v u : View) (l : Lawful tasks v) (r top steps : ℕ) (
   runner-blocks n k w = subst (λ x. 1 ≤ v .left x (tasks .D top)) (who-blocks n k w) (w .holder-left)
 
 -- number 15: in mid-tick no other job holds what the runner may take
-pub no-15 : (tasks : Tasks) (v : View) (l : Lawful tasks v) (r top steps : ℕ) → Chosen tasks v v r top steps → Midway tasks v →
+pub no-15 : {tasks : Tasks} {v : View} → Lawful tasks v → {r top steps : ℕ} → Chosen tasks v v r top steps → Midway tasks v →
     (g x : ℕ) → v .pending g ≡ true → g ≢ r → x ≤ tasks .D r → v .left g x ≡ 0
-no-15 tasks v l r top steps chosen mid g x p d b = at (v .left g x) refl
+no-15 {tasks} {v} l {r} chosen mid g x p d b = at (v .left g x) refl
   where
     at : (y : ℕ) → v .left g x ≡ y → v .left g x ≡ 0
     at zero e = e
-    at (suc y) e = by (runner-first tasks v v l r top steps chosen g started p)
+    at (suc y) e = by (runner-first l chosen g started p)
       where
         started : v .started g ≡ true
         started = l .holds-started g (l .left-holds g x (omega arith))

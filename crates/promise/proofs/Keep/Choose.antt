@@ -96,7 +96,7 @@ module _ {t : Table} {passed : Passed t} {s : State} (good : Good passed s) wher
     picked-good : Good passed picked
     picked-good =
         picks picked-stands
-        (CoreChoice.choose (tasks t) (view t s) (view t picked) (sees passed (good .stands)) at first (given (turn t s .speed)) chosen-as (good .mid))
+        (CoreChoice.choose (sees passed (good .stands)) chosen-as (good .mid))
 
   -- no job is pending
   module _ (none : noPlace ≤ top s) where

@@ -15,7 +15,7 @@ use Rattle.machine.proofs.Laws.Calls as Calls
 use Rattle.promise.specs.History.{release, answered}
 use Rattle.promise.specs.Promise.{Passed}
 use Rattle.promise.proofs.Core.Release as CoreRelease
-use Rattle.promise.proofs.Edge.View.{tasks, view, Stands}
+use Rattle.promise.proofs.Edge.View.{Stands}
 use Rattle.promise.proofs.Edge.Invariant.{passes, task-fits, Good, sees, rests}
 use Rattle.promise.proofs.Edge.Release.{released-stands, released-as}
 use Rattle.promise.proofs.Keep.Made.{takes-on, Next, refuses, steady, middle, between}
@@ -26,7 +26,7 @@ module _ {t : Table} {passed : Passed t} {s : State} (good : Good passed s) wher
     next-release = record {
       kept =
           rests passed (releasedAt t s p) stands h (good .first h .0)
-          (CoreRelease.release (tasks t) (task-fits passed) (view t s) (view t (releasedAt t s p)) (sees passed (good .stands)) (sees passed stands) p
+          (CoreRelease.release (task-fits passed) (sees passed (good .stands)) (sees passed stands)
           (released-as (passes passed) (good .stands) p l w) (record { midway = good .mid; nearer = good .first h .1 }));
       made = takes-on p refl l (not-there (jobAt s p .pending) refl) refl;
     }

@@ -36,7 +36,7 @@ use Rattle.promise.specs.History.{report, answered}
 use Rattle.promise.specs.Promise.{Passed}
 use Rattle.promise.proofs.Core.Choice as CoreChoice
 use Rattle.promise.proofs.Core.Stack as CoreStack
-use Rattle.promise.proofs.Core.Tick as CoreTick
+use Rattle.promise.proofs.Core.Close as CoreClose
 use Rattle.promise.proofs.Core.View.{Lawful, Between}
 use Rattle.promise.proofs.Edge.View.{tasks, marked, markDistance, view, Stands, left-barred, inside}
 use Rattle.promise.proofs.Edge.Choice as Chosen
@@ -93,7 +93,7 @@ module _ {t : Table} {passed : Passed t} {s : State} (good : Good passed s) (h :
             omega (
               arith,
               left-barred t (taskAt t k) (D t p) (jobAt s k .held) (good .stands .jobs k (inside (passes passed) (good .stands) k pending) .section) barred,
-              CoreStack.no-15 (tasks t) (view t s) seen p top-at steps runs-as (good .mid) k (D t p) pending other (omega arith),
+              CoreStack.no-15 seen runs-as (good .mid) k (D t p) pending other (omega arith),
             )
           where
             seen : Lawful (tasks t) (view t s)
@@ -137,8 +137,14 @@ module _ {t : Table} {passed : Passed t} {s : State} (good : Good passed s) (h :
 
       next-between : Between (tasks t) (view t next)
       next-between =
-          CoreTick.tick (tasks t) (task-fits passed) (view t s) (view t next) (sees passed (good .stands)) (sees passed next-stands) p top-at steps runs-as
-          (ticked (passes passed) (good .stands) (good .mid) ahead p (turn t s .speed) within there job runner-after) (good .mid)
+          CoreClose.tick record {
+            fits = task-fits passed;
+            lawful = sees passed (good .stands);
+            lawful-after = sees passed next-stands;
+            chosen = runs-as;
+            ticked = ticked (passes passed) (good .stands) (good .mid) ahead p (turn t s .speed) within there job runner-after;
+            mid = good .mid;
+          }
 
       -- number 16: nobody stands at its deadline
       next-in-time : late next ≡ false
