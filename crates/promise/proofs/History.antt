@@ -1,3 +1,4 @@
+pub mod Parts
 pub mod Counts
 pub mod Tells
 pub mod Own
