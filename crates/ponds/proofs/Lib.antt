@@ -1,2 +1,1 @@
-pub mod Ponds
-pub mod Histories
+pub mod Computed

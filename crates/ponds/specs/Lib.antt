@@ -1,4 +1,6 @@
 pub mod Ponds
 pub mod Runs
 pub mod Histories
+pub mod Variants
 pub mod Document003
+pub mod Broken

@@ -1,4 +1,4 @@
--- The examples, computed. Assumes nothing.
+-- What is computed on the definitions: every one of them is opened, and each fact is then the same on both sides. Assumes nothing.
 use Prim.Native.Nat.{ℕ, zero, suc, _<_}
 use mathlib.Core.Path.{_≡_, refl}
 use native.Mathlib.Omega.{arith}
@@ -16,9 +16,12 @@ use Rattle.report.specs.Report as Report
 use Rattle.consistency.specs.Consistency.{notPendingFits, pendingFits, startedFits, waitFits, jobFits, unused, positionFits, positionsFit, unchanged, consistent}
 use Rattle.machine.specs.Machine as Machine
 use Rattle.promise.specs.History.{lines, ticksClosed, stepsGiven, section, endsAt, hasEnded}
+use Rattle.ponds.specs.Ponds.{p5, ponds, Worked}
+use Rattle.ponds.specs.Runs as Runs
 use Rattle.ponds.specs.Histories.{calls, refused, P5, rollOver, RollOver}
-use Rattle.ponds.specs.Ponds.{p5}
+use Rattle.ponds.specs.Variants as Variants
 use Rattle.ponds.specs.Document003 as Document003
+use Rattle.ponds.specs.Broken.{Broken}
 
 p5-limits : (k : ℕ) → k < 4 → length (taskAt p5 k .limits) ≡ 8
 p5-limits zero l = refl
@@ -33,10 +36,24 @@ rollOver-limits (suc zero) l = refl
 rollOver-limits (suc (suc zero)) l = refl
 rollOver-limits (suc (suc (suc k))) l = absurd (omega arith)
 
-pub computed : P5 × RollOver × Document003.Misses
-unfolding given Up Clock.after Clock.distance over sum largest smallest some all lowest first listed set has with takes users ceiling ceilings ticksInRound independentSum B synchronizationSum countInRange settingInRange inRange fault faultAt faulty overloaded sums verdict empty passes fresh place firstInOrder lastHolder heldResources blocked runner shortestAhead fastest inherited markAt rules turn choice Report.late Report.finished Report.reportRun Report.report notPendingFits pendingFits startedFits waitFits jobFits unused positionFits positionsFit unchanged consistent Machine.release Machine.choose Machine.report lines ticksClosed stepsGiven section endsAt hasEnded calls refused Document003.blocking Document003.rules Document003.turn Document003.lines Document003.slow
+computed : Worked ponds × P5 × RollOver × Document003.Misses × Broken
+unfolding given Up Clock.after Clock.distance over sum largest smallest some all lowest first listed set has with takes users ceiling ceilings ticksInRound independentSum B synchronizationSum countInRange settingInRange inRange fault faultAt faulty overloaded sums verdict empty passes fresh place firstInOrder lastHolder heldResources blocked runner shortestAhead fastest inherited markAt rules turn choice Report.late Report.finished Report.reportRun Report.report notPendingFits pendingFits startedFits waitFits jobFits unused positionFits positionsFit unchanged consistent Machine.release Machine.choose Machine.report lines ticksClosed stepsGiven section endsAt hasEnded Runs.step Runs.lines Runs.after calls refused Variants.lines Document003.blocking Document003.rules Document003.turn Document003.slow
 computed = (
+  (refl, (refl, (refl, (refl, (refl, (refl, (refl, (refl, (refl, (refl, (refl, (refl, (refl, (refl, (refl, (refl, tt)))))))))))))))),
   record { passed = record { verdict = refl; limits = p5-limits }; tick = refl; taken = refl; waits = refl; runs = refl; ends = refl; refusals = refl },
   record { passed = record { verdict = refl; limits = rollOver-limits }; position2 = refl; takes = refl; takenSection = refl; position0 = refl; deadline = refl; isTop = refl; isBlocked = refl; inherits = refl; speeds = refl; cutAtLimit = refl; waits = refl; rolls = refl; cutAtBudget = refl },
   record { stays = refl; differs = refl; before = refl; arrives = refl; deadline = refl; refusals = refl; fast = refl; waits = refl; runs = refl; misses = refl; pending = refl; otherOrder = refl; otherEnds = refl },
+  record { rule2 = (refl, refl); rule1 = (refl, refl); rule4 = (refl, refl); unmarked = refl; marked = refl; blocked = (refl, refl); ceiling = refl; refusedByB = refl; sumsFit = (omega arith, omega arith); late = refl; budget = (refl, refl); limit = (refl, refl) },
 )
+
+-- "P1 to P10 are shown of the rules by one statement over one list"
+pub worked : Worked ponds
+worked = computed .0
+
+-- what the promise speaks of does happen, and document 003's rule does not keep it
+pub shown : P5 × RollOver × Document003.Misses
+shown = (computed .1, computed .2, computed .3)
+
+-- nor do wrong rules
+pub broken : Broken
+broken = computed .4

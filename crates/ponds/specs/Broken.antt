@@ -1,0 +1,135 @@
+-- Wrong rules, and for each a table with a short history that breaks the promise there. Under 01's rules no call of it is refused; one table, that of the test without B, they do not pass.
+use Prim.Native.Nat.{ℕ, _+_, max, _≤_}
+use mathlib.Core.{Path._≡_, Bool.Bool, Bool.false, Bool.not, Bool._&&_, Bool.cond, List.List, List.[], List._∷_, List._++_}
+use lib.{ListN.getD, ListN.set, Dec.ltb, Dec.eqb}
+use Rattle.units.specs.{Amounts.ticks, Amounts.steps, Amounts.given, Folds.some, Folds.sum}
+use Rattle.table.specs.{declared.Task.Task, declared.Table.Table, Table.taskAt, Table.D, Table.C, Table.I, Table.S, Table.ceilings}
+use Rattle.admission.specs.Admission.{ticksInRound, independentSum}
+use Rattle.state.specs.{declared.Job.Job, declared.Held.Held, declared.Held.the-variants.Nothing, declared.Held.the-variants.In, declared.Report.Report, declared.Report.the-variants.Take, State.jobAt, Order.positionOf, Order.isStarted, Order.firstInOrder, Order.lastHolder}
+use Rattle.choice.specs.{Choice.top, Choice.runner, Choice.markPlace, Choice.markAt, Choice.synchronized, Choice.rule1, Choice.noHolderBehind, Choice.rules}
+use Rattle.report.specs.Report as Report
+use Rattle.consistency.specs.Consistency.{markFits}
+use Rattle.promise.specs.History.{Line, start}
+use Rattle.promise.specs.History as History
+use Rattle.ponds.specs.Ponds.{task, table, said}
+use Rattle.ponds.specs.Runs.{Event, release, tick, carry}
+use Rattle.ponds.specs.Histories.{calls, refused}
+use Rattle.ponds.specs.Variants.{Variant, byRules, lines, stateAfter}
+
+-- ---- the wrong rules
+
+-- "Document 003 enters synchronization mode only when a blocked job arrives": rule 2 left out
+abbrev pub withoutRule2 : Variant
+withoutRule2 = byRules λ t s. let run = runner t s in
+    cond (not (eqb run (top s))) (rule1 t s run) (noHolderBehind (s .mark) (markPlace (s .tick .0) (s .mark)) run (taskAt t (positionOf run)))
+
+-- rule 1 at the runner's own S
+abbrev pub ownS : Variant
+ownS = byRules λ t s. let run = runner t s in
+    cond (not (eqb run (top s))) (synchronized run (rule1 t s run .mark) (S t (positionOf run))) (rules t s run)
+
+-- rule 1 without the runner among those that may be marked
+abbrev pub runnerUnmarked : Variant
+runnerUnmarked = byRules λ t s. let run = runner t s in
+    cond (not (eqb run (top s)))
+    (synchronized run (markAt (s .tick .0) (max (markPlace (s .tick .0) (s .mark)) (lastHolder s run))) (rule1 t s run .speed)) (rules t s run)
+
+-- rule 4 at I
+abbrev pub markedAtI : Variant
+markedAtI = byRules λ t s. let run = runner t s in let u = rules t s run in
+    cond (eqb run (top s) && eqb (lastHolder s run) 0) (record { runner = u .runner; mark = u .mark; mode = u .mode; speed = I t (positionOf run) }) u
+
+-- a blocked top that runs
+abbrev pub topRuns : Variant
+topRuns = byRules λ t s. rules t s (top s)
+
+-- the ceiling compared strictly
+abbrev pub below : Table → ℕ → Held → Bool
+below t d Nothing = false
+below t d (In x) = ltb (getD (ceilings t) (x .resource) (ticks 0) .0) d
+
+abbrev pub strictly : Variant
+strictly = byRules λ t s. let p = positionOf (top s) in
+    rules t s (cond (not (jobAt s p .started) && some (λ k. below t (D t p) (jobAt s k .held) && (jobAt s k .pending && not (eqb k p))) 16) (firstInOrder isStarted s) (top s))
+
+-- 01's choice, and a report that makes something else of the runner's job
+abbrev pub byEnding : (Task → Report → ℕ → Job → Job) → Variant
+byEnding ending = record {
+  taken = byRules (λ t s. rules t s (runner t s)) .taken;
+  turn = byRules (λ t s. rules t s (runner t s)) .turn;
+  said = λ t s u said.
+      let p = positionOf (runner t s) in Report.finished s (set (s .jobs) p (ending (taskAt t p) said (u .speed) (jobAt s p))) u 0;
+}
+
+-- budgets not enforced: the steps used rise past C
+abbrev pub pastBudget : Variant
+pastBudget = byEnding λ task said v j. let w = Report.worked task v j in
+    Report.settled task said (record { pending = w .pending; started = w .started; deadline = w .deadline; used = steps (j .used .0 + given v); held = w .held; wait = w .wait }) .job
+
+-- a section's limit not enforced: a holder at its limit goes on
+abbrev pub pastLimit : Variant
+pastLimit = byEnding λ task said v j. let w = Report.worked task v j in
+    cond (Report.atLimit task (w .held)) w (Report.settled task said w .job)
+
+-- ---- the histories
+
+-- position k is released and takes resource 0; then position 0 is released, and n ticks carry on
+abbrev pub takesThen : ℕ → ℕ → List Event
+takesThen k n = release k ∷ tick (Take 0) ∷ release 0 ∷ carry n
+
+-- how a history ends: the number of the last answer, and how many refusals were before it
+abbrev pub ends : List Line → ℕ × ℕ
+ends [] = (0, 0)
+ends (line ∷ before) = (line .answer .number, refused before)
+
+-- under a wrong rule, and under 01's
+abbrev pub wrong : Variant → Table → List Event → ℕ × ℕ
+wrong w t events = ends (lines w t (start t 0) (calls events))
+
+abbrev pub right : Table → List Event → ℕ × ℕ
+right t events = ends (History.lines t (start t 0) (calls events))
+
+abbrev pub one : Table
+one = table 2 24 3 (task 3 2 1 2 0 0 ∷ task 6 1 1 1 1 0 ∷ task 24 4 1 1 3 0 ∷ [])
+
+abbrev pub oneEvents : List Event
+oneEvents = (release 2 ∷ tick (Take 0) ∷ release 0 ∷ release 1 ∷ []) ++ (carry 3 ++ ((release 0 ∷ []) ++ carry 3))
+
+abbrev pub two : Table
+two = table 2 6 2 (task 2 1 1 2 1 0 ∷ task 6 3 1 1 2 0 ∷ [])
+
+abbrev pub three : Table
+three = table 2 9 2 (task 3 2 1 2 1 0 ∷ task 9 5 2 2 3 0 ∷ [])
+
+abbrev pub four : Table
+four = table 1 6 2 (task 3 2 1 1 1 0 ∷ task 6 2 1 1 1 0 ∷ [])
+
+abbrev pub fourEvents : List Event
+fourEvents = takesThen 1 1 ++ (tick (Take 0) ∷ [])
+
+abbrev pub five : Table
+five = table 1 6 2 (task 2 1 1 1 1 0 ∷ task 6 3 1 1 2 0 ∷ [])
+
+abbrev pub six : Table
+six = table 2 1 1 (task 1 1 2 2 0 0 ∷ [])
+
+abbrev pub seven : Table
+seven = table 1 6 2 (task 2 1 1 1 1 0 ∷ task 6 3 1 1 1 0 ∷ [])
+
+pub record Broken : Type 0 where
+  pub rule2 : (wrong withoutRule2 one oneEvents ≡ (16, 0)) × (right one oneEvents ≡ (0, 0))
+  pub rule1 : (wrong ownS two (takesThen 1 2) ≡ (16, 0)) × (right two (takesThen 1 2) ≡ (0, 0))
+  pub rule4 : (wrong markedAtI three (takesThen 1 3) ≡ (16, 0)) × (right three (takesThen 1 3) ≡ (0, 0))
+  -- the mark of place 0, one tick on, is further than 65,535 ticks ahead: 9
+  pub unmarked : markFits 2 2 (stateAfter runnerUnmarked three (start three 0) (calls (takesThen 1 1)) .mark) ≡ false
+  pub marked : right three (takesThen 1 1) ≡ (0, 0)
+  -- a take of what another job holds: 15
+  pub blocked : (wrong topRuns four fourEvents ≡ (15, 0)) × (right four fourEvents ≡ (0, 0))
+  pub ceiling : wrong strictly four fourEvents ≡ (15, 0)
+  -- B left out of the test: number 8 by B alone, and by 01's rules 16
+  pub refusedByB : said five ≡ 8 ∷ 0 ∷ []
+  pub sumsFit : (independentSum five ≤ 6) × (sum (λ k. ticksInRound (C five k) (S five k) 6 (D five k)) 2 ≤ 6)
+  pub late : wrong (byRules (λ t s. rules t s (runner t s))) five (takesThen 1 2) ≡ (16, 0)
+  -- the budget, and the section's limit, not enforced
+  pub budget : (wrong pastBudget six (release 0 ∷ carry 1) ≡ (16, 0)) × (right six (release 0 ∷ carry 1) ≡ (0, 0))
+  pub limit : (wrong pastLimit seven (takesThen 1 2) ≡ (16, 0)) × (right seven (takesThen 1 2) ≡ (0, 0))
