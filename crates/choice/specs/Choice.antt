@@ -44,6 +44,10 @@ abbrev pub markPlace : ℕ → Mark → ℕ
 markPlace now Absent = 0
 markPlace now (At m) = place now (m .deadline .0) (m .position)
 
+-- "the old mark"
+abbrev pub oldMark : State → ℕ
+oldMark s = markPlace (s .tick .0) (s .mark)
+
 -- "The mark becomes" a job at a place
 unfoldable pub markAt : ℕ → ℕ → Mark
 markAt now at = At (record { deadline = tick (after now (at / 256)); position = positionOf at })
@@ -57,11 +61,11 @@ alone run task = record { runner = Runs.Job (positionOf run); mark = Absent; mod
 
 -- 1. "Runner is not top: synchronization. The mark becomes the last in order among the old mark, the runner, and any holders behind the runner." Its speed is inherited.
 abbrev pub rule1 : Table → State → ℕ → Turn
-rule1 t s run = synchronized run (markAt (s .tick .0) (max (markPlace (s .tick .0) (s .mark)) (max run (lastHolder s run)))) (inherited t s run)
+rule1 t s run = synchronized run (markAt (s .tick .0) (max (oldMark s) (max run (lastHolder s run)))) (inherited t s run)
 
 -- 2. "Some job behind the runner holds a resource: synchronization, the mark becomes the last in order among the old mark and those holders; speed S of the runner."
 abbrev pub rule2 : Table → State → ℕ → Turn
-rule2 t s run = synchronized run (markAt (s .tick .0) (max (markPlace (s .tick .0) (s .mark)) (lastHolder s run))) (S t (positionOf run))
+rule2 t s run = synchronized run (markAt (s .tick .0) (max (oldMark s) (lastHolder s run))) (S t (positionOf run))
 
 -- 4. "A mark stands: synchronization, speed S."
 abbrev pub rule4 : ℕ → Place → Task → Turn
@@ -77,7 +81,7 @@ unfoldable pub rules : Table → State → ℕ → Turn
 rules t s run =
     cond (not (eqb run (top s))) (rule1 t s run)
     (cond (ltb 0 (lastHolder s run)) (rule2 t s run)
-    (noHolderBehind (s .mark) (markPlace (s .tick .0) (s .mark)) run (taskAt t (positionOf run))))
+    (noHolderBehind (s .mark) (oldMark s) run (taskAt t (positionOf run))))
 
 -- "With no pending job the processor idles: independent, speed 0, mark removed."
 abbrev pub idle : Turn

@@ -6,7 +6,7 @@ use Rattle.units.specs.{Amounts.ticks, Amounts.steps, Amounts.given, Folds.some
 use Rattle.table.specs.{declared.Task.Task, declared.Table.Table, Table.taskAt, Table.D, Table.C, Table.I, Table.S, Table.ceilings}
 use Rattle.admission.specs.Admission.{ticksInRound, independentSum}
 use Rattle.state.specs.{declared.Job.Job, declared.Held.Held, declared.Held.the-variants.Nothing, declared.Held.the-variants.In, declared.Report.Report, declared.Report.the-variants.Take, State.jobAt, Order.positionOf, Order.isStarted, Order.firstInOrder, Order.lastHolder}
-use Rattle.choice.specs.{Choice.top, Choice.runner, Choice.markPlace, Choice.markAt, Choice.synchronized, Choice.rule1, Choice.noHolderBehind, Choice.rules}
+use Rattle.choice.specs.{Choice.top, Choice.runner, Choice.oldMark, Choice.markAt, Choice.synchronized, Choice.rule1, Choice.noHolderBehind, Choice.rules}
 use Rattle.report.specs.Report as Report
 use Rattle.consistency.specs.Consistency.{markFits}
 use Rattle.promise.specs.History.{Line, start}
@@ -21,7 +21,7 @@ use Rattle.ponds.specs.Variants.{Variant, byRules, lines, stateAfter}
 -- "Document 003 enters synchronization mode only when a blocked job arrives": rule 2 left out
 abbrev pub withoutRule2 : Variant
 withoutRule2 = byRules λ t s. let run = runner t s in
-    cond (not (eqb run (top s))) (rule1 t s run) (noHolderBehind (s .mark) (markPlace (s .tick .0) (s .mark)) run (taskAt t (positionOf run)))
+    cond (not (eqb run (top s))) (rule1 t s run) (noHolderBehind (s .mark) (oldMark s) run (taskAt t (positionOf run)))
 
 -- rule 1 at the runner's own S
 abbrev pub ownS : Variant
@@ -32,7 +32,7 @@ ownS = byRules λ t s. let run = runner t s in
 abbrev pub runnerUnmarked : Variant
 runnerUnmarked = byRules λ t s. let run = runner t s in
     cond (not (eqb run (top s)))
-    (synchronized run (markAt (s .tick .0) (max (markPlace (s .tick .0) (s .mark)) (lastHolder s run))) (rule1 t s run .speed)) (rules t s run)
+    (synchronized run (markAt (s .tick .0) (max (oldMark s) (lastHolder s run))) (rule1 t s run .speed)) (rules t s run)
 
 -- rule 4 at I
 abbrev pub markedAtI : Variant

@@ -6,7 +6,7 @@ use Rattle.units.specs.Clock as Clock
 use Rattle.units.specs.Folds.{largest}
 use Rattle.table.specs.{declared.Table.Table, Table.taskAt, Table.D, Table.ceilings}
 use Rattle.state.specs.{declared.State.State, declared.Held.the-variants.Nothing, declared.Mark.Mark, declared.Mark.the-variants.Absent, declared.Mark.the-variants.At, declared.Mode.the-variants.Independent, declared.Mode.the-variants.Synchronization, declared.Mode.Mode, declared.Report.Report, declared.Report.the-variants.CarryOn, declared.Report.the-variants.Take, declared.Runner.Runner, declared.Runner.the-variants.Nobody, declared.Runner.the-variants.Job, State.jobAt, Order.placeAt, Order.positionOf, Order.noPlace}
-use Rattle.choice.specs.{declared.Turn.Turn, Choice.top, Choice.bars, Choice.runner, Choice.inherited, Choice.markPlace, Choice.markAt, Choice.noHolderBehind, Choice.idle}
+use Rattle.choice.specs.{declared.Turn.Turn, Choice.top, Choice.bars, Choice.runner, Choice.inherited, Choice.oldMark, Choice.markAt, Choice.noHolderBehind, Choice.idle}
 use Rattle.report.specs.Report.{reportAs}
 use Rattle.machine.specs.Machine.{releasedAt}
 use Rattle.promise.specs.History.{Call, release, choose, report, Line, start, isTick}
@@ -38,7 +38,7 @@ unfoldable pub rules : Table → State → ℕ → Turn
 rules t s run =
     cond (not (eqb run (top s)))
     (record { runner = Job (positionOf run); mark = s .mark; mode = Synchronization; speed = inherited t s run })
-    (noHolderBehind (s .mark) (markPlace (s .tick .0) (s .mark)) run (taskAt t (positionOf run)))
+    (noHolderBehind (s .mark) (oldMark s) run (taskAt t (positionOf run)))
 
 -- "or when the system becomes idle"
 unfoldable pub turn : Table → State → Turn

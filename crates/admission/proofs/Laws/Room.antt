@@ -1,8 +1,7 @@
 -- A table that passes has room: in any span of ticks, for all the jobs whose deadlines lie within it. Assumes nothing.
-use Prim.Native.Nat.{ℕ, zero, suc, _+_, _*_, _/_, _%_, _≤_, _<_}
+use Prim.Native.Nat.{ℕ, _+_, _*_, _/_, _≤_, _<_}
 use mathlib.Core.Path.{_≡_, ap}
 use native.Mathlib.Nat.{div-add-mod', div-eq-of-lt, div-mul-le-self, mul-le-mul-left, mul-le-mul-right, le-of-mul-le-mul-right}
-use native.Mathlib.Numerals.{add-one}
 use native.Mathlib.Omega.{arith}
 use Rattle.units.specs.Amounts.{Up, given}
 use Rattle.units.specs.Folds.{sum}

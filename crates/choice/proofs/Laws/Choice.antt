@@ -53,10 +53,6 @@ pub choice-is : (t : Table) (s : State)
 unfolding choice
 choice-is t s = refl
 
-pub choice-turn : (t : Table) (s : State) → choice t s .turn ≡ turn t s
-unfolding choice
-choice-turn t s = refl
-
 begin-long : (s : State) (r : Runner) → length (begin s r) ≡ length (s .jobs)
 begin-long s Runs.Nobody = refl
 begin-long s (Runs.Job p) = length-set (s .jobs) p (begun (jobAt s p))

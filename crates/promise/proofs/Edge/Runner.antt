@@ -20,7 +20,7 @@ use Rattle.report.specs.declared.Outcome.{Outcome}
 use Rattle.report.specs.Report.{heldOn, worked, ended, holding, atLimit}
 use Rattle.report.proofs.Laws.Answers.{Fair}
 use Rattle.report.proofs.Laws.Sections.{on-nothing, on-below, below-limit}
-use Rattle.report.proofs.Laws.Jobs.{Keeps, carries, takes, gives, Fate, done, spent, stopped, goes}
+use Rattle.report.proofs.Laws.Jobs.{worked-used, Keeps, carries, takes, gives, Fate, done, spent, stopped, goes}
 use Rattle.consistency.proofs.Laws.Jobs.{SectionFits}
 use Rattle.promise.proofs.Edge.View.{left, JobStands}
 
@@ -128,8 +128,8 @@ module _ (t : Table) (task : Task) (v : ℕ) (j : Job) (said : Report) (held : �
       absent = λ q. absurd (false≢true (sym (stands .absent q .started) ∙ begun));
     };
     wait = refl;
-    used = λ q. omega (arith, unspent);
-    less = λ q. omega (arith, unspent);
+    used = λ q. omega (arith, unspent, worked-used task v j);
+    less = λ q. omega (arith, unspent, worked-used task v j);
     started = λ q. begun;
     deadline = λ q. refl;
     left = λ q. w .falls;

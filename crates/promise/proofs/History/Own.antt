@@ -25,7 +25,7 @@ use Rattle.report.specs.declared.Outcome.{Outcome}
 use Rattle.report.specs.Report.{heldOn, atLimit, waited}
 use Rattle.report.specs.Report as Report
 use Rattle.report.proofs.Laws.Sections.{on-nothing, on-below, below-limit, at-limit, at-limit-holds}
-use Rattle.report.proofs.Laws.Jobs.{Keeps, carries, takes, gives, Fate, done, spent, stopped, goes}
+use Rattle.report.proofs.Laws.Jobs.{worked-used, Keeps, carries, takes, gives, Fate, done, spent, stopped, goes}
 use Rattle.promise.specs.History.{report, Line, isAt, isOwn, stepsGiven, longer, afterCall, section, isLast, reached, hasEnded}
 use Rattle.promise.proofs.History.Counts.{one-tick, has-worked, next-section, own-ended}
 use Rattle.promise.proofs.History.Tells.{Tells, line, Onward}
@@ -64,7 +64,8 @@ module _ (t : Table) (s : State) (k : ℕ) (h : List Line) (w : Tells t s k h) (
   on = Report.worked (taskAt t k) (u .speed) (jobAt s k)
 
   given-is : on .used .0 ≡ stepsGiven t k (here ∷ h)
-  given-is = ap (λ (x : ℕ). min (x + given (u .speed)) (C t k)) (w .used) ∙ sym (has-worked here h t k own)
+  given-is =
+      worked-used (taskAt t k) (u .speed) (jobAt s k) ∙ ap (λ (x : ℕ). min (x + given (u .speed)) (C t k)) (w .used) ∙ sym (has-worked here h t k own)
 
   section-is : {r : Report} → said ≡ r → section k (here ∷ h) ≡ afterCall (report r) (longer (u .speed) (jobAt s k .held))
   section-is {r} e =

@@ -1,55 +1,28 @@
 -- What a report does to the jobs. Assumes nothing.
-use Prim.Native.Nat.{ℕ, _+_, _≤_, _<_, min}
-use mathlib.Core.Path.{_≡_, refl, sym, ap, _∙_}
+use Prim.Native.Nat.{ℕ, _+_, _<_, min}
+use mathlib.Core.Path.{_≡_, refl, ap, _∙_}
 use mathlib.Core.List.{List}
-use mathlib.Core.Bool.{Bool, true, false, cond}
-use native.Mathlib.Nat.{min-le-right}
-use native.Mathlib.Omega.{arith}
+use mathlib.Core.Bool.{Bool, true, false}
 use lib.ListN.{length, getD, set, List·getD-map}
 use lib.Seq.{getD-set-same, getD-set-other}
 use lib.Dec.{eqb}
 use borrow.Author.Tests.{eqb-true, eqb-false}
 use Rattle.units.specs.Amounts.{steps, given}
 use Rattle.table.specs.declared.Task.{Task}
-use Rattle.table.specs.declared.Table.{Table}
-use Rattle.table.specs.Table.{taskAt}
 use Rattle.state.specs.declared.Job.{Job}
 use Rattle.state.specs.declared.State.{State}
-use Rattle.state.specs.declared.Answer.{Answer}
 use Rattle.state.specs.declared.Held.{Held}
 use Rattle.state.specs.declared.Held.the-variants.{Nothing, In}
-use Rattle.state.specs.declared.Runner.{Runner}
-use Rattle.state.specs.declared.Runner.the-variants as Runs
 use Rattle.state.specs.declared.Report.{Report}
 use Rattle.state.specs.declared.Report.the-variants.{CarryOn, Done, Take, Give}
 use Rattle.state.specs.State.{noJob, jobAt}
-use Rattle.state.specs.Order.{heldResources}
-use Rattle.state.specs.Answers.{bare}
-use Rattle.choice.specs.declared.Turn.{Turn}
-use Rattle.choice.specs.Choice.{turn}
 use Rattle.report.specs.declared.Outcome.{Outcome}
-use Rattle.report.specs.Report.{worked, ended, holding, atLimit, settled, objection, waited, closed, late, finished, reportRun, reportIdle, reportAs, report}
+use Rattle.report.specs.Report.{worked, ended, holding, atLimit, settled, waited, closed}
 
 -- ---- the steps of the tick
 
-module _ (task : Task) (v : ℕ) (j : Job) where
-  pub worked-pending : worked task v j .pending ≡ j .pending
-  worked-pending = refl
-
-  pub worked-started : worked task v j .started ≡ j .started
-  worked-started = refl
-
-  pub worked-deadline : worked task v j .deadline ≡ j .deadline
-  worked-deadline = refl
-
-  pub worked-wait : worked task v j .wait ≡ j .wait
-  worked-wait = refl
-
-  pub worked-used : worked task v j .used .0 ≡ min (j .used .0 + given v) (task .budget .0)
-  worked-used = refl
-
-  pub used-within : worked task v j .used .0 ≤ task .budget .0
-  used-within = min-le-right _ _
+pub worked-used : (task : Task) (v : ℕ) (j : Job) → worked task v j .used .0 ≡ min (j .used .0 + given v) (task .budget .0)
+worked-used task v j = refl
 
 -- ---- the endings
 
