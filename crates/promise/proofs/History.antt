@@ -6,3 +6,4 @@ pub mod Onward
 pub mod Follow
 pub mod Start
 pub mod Whose
+pub mod Mark

@@ -74,8 +74,8 @@ module _ {t : Table} (passed : Passed t) (now : ℕ) (small : now < 2 ^ 32) wher
         go (refused n l e) = inr (omega (arith, l, is e))
         go (takes-on p c l f e) = inl (is e)
         go (chooses c e) = inl (is e)
-        go (idles c r f e) = inl (is e)
-        go (runs p said c r l f e) = inl (is e)
+        go (idles c h r f e) = inl (is e)
+        go (runs p said c h r l f e) = inl (is e)
 
     by-no-refusal : (call : Call) → (answered t state-now call .number ≡ 9 → ⊥) × (answered t state-now call .number ≡ 16 → ⊥)
     by-no-refusal call = go (answered t state-now call .number) (numbers call)
@@ -124,8 +124,8 @@ module _ {t : Table} (passed : Passed t) (now : ℕ) (small : now < 2 ^ 32) wher
           go (refused n l e) = absurd (omega (arith, l, zero, ap (λ (b : Answer). b .number) e))
           go (takes-on p c l f e) = absurd (false≢true (sym (ap isReport c)))
           go (chooses c e) = absurd (false≢true (sym (ap isReport c)))
-          go (idles c r f e) = absurd (false≢true (sym (ap (isAt k) (ap (λ (b : Answer). b .runner) e ∙ r)) ∙ mine))
-          go (runs p q c r l f e) =
+          go (idles c h r f e) = absurd (false≢true (sym (ap (isAt k) (ap (λ (b : Answer). b .runner) e ∙ r)) ∙ mine))
+          go (runs p q c h r l f e) =
               let same : p ≡ k = eqb-true p k (sym (ap (isAt k) (ap (λ (b : Answer). b .runner) e ∙ r)) ∙ mine) in
               owner (ap (λ (i : ℕ). jobAt state-now i .pending) (sym same) ∙ f)
 

@@ -1,5 +1,5 @@
 -- A tick that is closed, as the proof sees it: from the report's laws. Assumes nothing.
-use Prim.Native.Nat.{ℕ, _-_, _≤_, _<_}
+use Prim.Native.Nat.{ℕ, _+_, _-_, _^_, _≤_, _<_}
 use mathlib.Core.Path.{_≡_, refl, sym, ap, _∙_}
 use mathlib.Core.Bool.{true, false≢true}
 use mathlib.Core.Logic.{_⊎_, inl, inr, _≢_}
@@ -22,14 +22,14 @@ use Rattle.state.specs.declared.Mark.the-variants.{Absent, At}
 use Rattle.state.specs.declared.Place.{Place}
 use Rattle.state.specs.declared.State.{State}
 use Rattle.state.specs.State.{jobAt}
-use Rattle.state.specs.Order.{placeAt, holds, holdsAny}
-use Rattle.state.proofs.Laws.Order.{place-position, place-distance}
+use Rattle.state.specs.Order.{place, placeAt, holds, holdsAny}
+use Rattle.state.proofs.Laws.Order.{place-next}
 use Rattle.report.specs.Report.{waited, closed}
 use Rattle.report.proofs.Laws.Jobs.{closed-set-same, closed-set-other}
 use Rattle.consistency.proofs.Laws.Facts.{MarkFits}
 use Rattle.promise.proofs.Core.Tick as Core
 use Rattle.promise.proofs.Core.View.{Midway}
-use Rattle.promise.proofs.Edge.View.{tasks, left, marked, markDistance, view, JobStands, Stands, below-16}
+use Rattle.promise.proofs.Edge.View.{tasks, left, marked, markDistance, view, JobStands, Stands}
 use Rattle.promise.proofs.Edge.Runner.{After}
 
 -- no job holds it
@@ -45,7 +45,7 @@ waited-stands task j h = record {
 }
 
 -- the mark, one tick on
-module _ (s : State) (now : s .tick .0 < Prim.Native.Nat._^_ 2 32) (ahead : marked (s .mark) ≡ true → 1 ≤ markDistance (s .tick .0) (s .mark)) where
+module _ (s : State) (now : s .tick .0 < 2 ^ 32) (ahead : marked (s .mark) ≡ true → 1 ≤ markDistance (s .tick .0) (s .mark)) where
   next-mark : marked (s .mark) ≡ true → markDistance (Clock.after (s .tick .0) 1) (s .mark) ≡ markDistance (s .tick .0) (s .mark) - 1
   next-mark h = go (s .mark) h (ahead h)
     where
@@ -130,26 +130,10 @@ module _ {t : Table} (a : Admitted t) {s : State} (stands : Stands t s) (mid : M
       let w = was k h in
       ap (Clock.distance (next .tick .0)) (w .1) ∙ distance-next (s .tick .0) (jobAt s k .deadline .0) (stands .now) (mid .numbers .distance-some k (w .0))
 
-  before : (j k : ℕ) → j < 16 → k < 16 → jobAt next j .pending ≡ true → jobAt next k .pending ≡ true → placeAt next j < placeAt next k → placeAt s j < placeAt s k
-  before j k l m h i o =
-      let dj = mid .numbers .distance-some j (was j h .0) in
-      let dk = mid .numbers .distance-some k (was k i .0) in
-      omega (
-        arith,
-        near j h,
-        near k i,
-        place-distance (next .tick .0) (jobAt next j .deadline .0) j (omega arith),
-        place-distance (next .tick .0) (jobAt next k .deadline .0) k (omega arith),
-        place-position (next .tick .0) (jobAt next j .deadline .0) j (omega arith),
-        place-position (next .tick .0) (jobAt next k .deadline .0) k (omega arith),
-        place-distance (s .tick .0) (jobAt s j .deadline .0) j (omega arith),
-        place-distance (s .tick .0) (jobAt s k .deadline .0) k (omega arith),
-        place-position (s .tick .0) (jobAt s j .deadline .0) j (omega arith),
-        place-position (s .tick .0) (jobAt s k .deadline .0) k (omega arith),
-      )
-
-  below : (k : ℕ) → jobAt next k .pending ≡ true → k < 16
-  below k h = below-16 a stands k (was k h .0)
+  one-on : (k : ℕ) → jobAt next k .pending ≡ true → placeAt next k + 256 ≡ placeAt s k
+  one-on k h =
+      let w = was k h in
+      ap (λ (d : ℕ). place (next .tick .0) d k + 256) (w .1) ∙ place-next (s .tick .0) (jobAt s k .deadline .0) k (stands .now) (mid .numbers .distance-some k (w .0))
 
   wait : (k : ℕ) → jobAt next k .wait .0 ≡ jobAt s k .wait .0 - 1
   wait k = go (ℕ-discrete k p)
@@ -171,7 +155,7 @@ module _ {t : Table} (a : Admitted t) {s : State} (stands : Stands t s) (mid : M
     left = λ h x l. omega (arith, ap (λ (j : Job). left t (taskAt t p) x (j .held)) own, after .left (lives h) x l);
     distance = near;
     wait = wait;
-    before = λ j k h i o. before j k (below j h) (below k i) h i o;
+    before = λ j k h i o. omega (arith, one-on j h, one-on k i);
     mark = refl;
     markDistance = next-mark s (stands .now) ahead;
   }

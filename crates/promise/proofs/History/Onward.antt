@@ -96,8 +96,8 @@ module _ {t : Table} {passed : Passed t} {s : State} (good : Good passed s) (k :
   onward call a (refused n l e) = made-as refl e (quiet t s k h w call (bare n s) (no-number (isReport call) n (omega (arith, l))) refl refl refl refl refl)
   onward call a (takes-on p c l f e) = made-as c e (on-release p f)
   onward call a (chooses c e) = made-as c e on-choice
-  onward call a (idles c r f e) = absurd (f k (w .pending))
-  onward call a (runs p said c r l f e) = made-as c e (on-tick said p r (ℕ-discrete k p))
+  onward call a (idles c h r f e) = absurd (f k (w .pending))
+  onward call a (runs p said c h r l f e) = made-as c e (on-tick said p r (ℕ-discrete k p))
 
 -- a release that is taken begins it
 module _ {t : Table} {passed : Passed t} {s : State} (good : Good passed s) (k : ℕ) (inside : k < t .count) where

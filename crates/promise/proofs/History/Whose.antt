@@ -49,8 +49,8 @@ module _ {t : Table} {passed : Passed t} {s : State} (good : Good passed s) (k :
       go (yes z) = inr (c ∙ ap release (sym z), ap (λ (b : Answer). b .number) e)
       go (no z) = was-same call a (ap (λ (b : Answer). jobAt (b .state) k) e ∙ released-others t s q k z) refl p
   was-pending call a (chooses c e) p = was-same call a (ap (λ (b : Answer). jobAt (b .state) k) e) (chosen-pending (decLt (top s) noPlace)) p
-  was-pending call a (idles c r f e) p = was-same call a (ap (λ (b : Answer). jobAt (b .state) k) e ∙ closed-at s (s .jobs) k) refl p
-  was-pending call a (runs q said c r l f e) p = go (ℕ-discrete k q)
+  was-pending call a (idles c h r f e) p = was-same call a (ap (λ (b : Answer). jobAt (b .state) k) e ∙ closed-at s (s .jobs) k) refl p
+  was-pending call a (runs q said c h r l f e) p = go (ℕ-discrete k q)
     where
       go : Dec (k ≡ q) → Was call a
       go (yes z) = inl (ap (λ (i : ℕ). jobAt s i .pending) z ∙ f)

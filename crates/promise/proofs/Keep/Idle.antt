@@ -102,4 +102,4 @@ module _ {t : Table} {passed : Passed t} {s : State} (good : Good passed s) (h :
       where
         go : (said : Report) → (said ≡ CarryOn) ⊎ (AtReport.report t s said ≡ bare 14 s) → Next good (report said) (answered t s (report said))
         go said (inr e) = refuses good (report said) _ 14 (omega arith) (Calls.report-runs t s (steady good) said (middle good h) ∙ e)
-        go said (inl e) = rw (e, answer) record { kept = passed-good; made = idles refl idle (nobody-pending good none) refl }
+        go said (inl e) = rw (e, answer) record { kept = passed-good; made = idles refl h idle (nobody-pending good none) refl }

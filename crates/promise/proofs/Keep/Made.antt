@@ -27,8 +27,8 @@ pub data Made (t : Table) (s : State) (call : Call) (a : Answer) : Type 0 where
   refused : (n : ℕ) → (10 ≤ n) × (n ≤ 14) → a ≡ bare n s → Made t s call a
   takes-on : (p : ℕ) → call ≡ release p → p < t .count → jobAt s p .pending ≡ false → a ≡ bare 0 (releasedAt t s p) → Made t s call a
   chooses : call ≡ choose → a ≡ chosen (choice t s) → Made t s call a
-  idles : call ≡ report CarryOn → turn t s .runner ≡ Runs.Nobody → ((k : ℕ) → jobAt s k .pending ≡ true → ⊥) → a ≡ taken-answer s (s .jobs) (turn t s) 0 → Made t s call a
-  runs : (p : ℕ) (said : Report) → call ≡ report said → turn t s .runner ≡ Runs.Job p → p < t .count → jobAt s p .pending ≡ true
+  idles : call ≡ report CarryOn → s .half ≡ Second → turn t s .runner ≡ Runs.Nobody → ((k : ℕ) → jobAt s k .pending ≡ true → ⊥) → a ≡ taken-answer s (s .jobs) (turn t s) 0 → Made t s call a
+  runs : (p : ℕ) (said : Report) → call ≡ report said → s .half ≡ Second → turn t s .runner ≡ Runs.Job p → p < t .count → jobAt s p .pending ≡ true
       → a ≡ taken-answer s (set (s .jobs) p (outcome t s (turn t s) p said .job)) (turn t s) (outcome t s (turn t s) p said .ending) → Made t s call a
 
 module _ {t : Table} {passed : Passed t} {s : State} (good : Good passed s) where
@@ -76,5 +76,5 @@ taken-on {t} {s} {k} {a} (takes-on p c l f e) zero =
       state = ap (λ (b : Answer). b .state) e ∙ ap (releasedAt t s) same;
     }
 taken-on (chooses c e) zero = absurd (false≢true (sym (ap isRelease c)))
-taken-on (idles c r f e) zero = absurd (false≢true (sym (ap isRelease c)))
-taken-on (runs p said c r l f e) zero = absurd (false≢true (sym (ap isRelease c)))
+taken-on (idles c h r f e) zero = absurd (false≢true (sym (ap isRelease c)))
+taken-on (runs p said c h r l f e) zero = absurd (false≢true (sym (ap isRelease c)))

@@ -177,5 +177,5 @@ module _ {t : Table} {passed : Passed t} {s : State} (good : Good passed s) (h :
         go (inr (taken r e l f n)) = absurd (none-holds r e l f)
         go (inl w) = rw (answer said (w .0) (w .1)) record {
           kept = rests passed (next said (w .1)) (next-stands said (w .1)) refl refl (next-between said (w .1));
-          made = runs p said refl runs-p within there refl;
+          made = runs p said refl h runs-p within there refl;
         }

@@ -1,5 +1,5 @@
 -- The order by places is document 01's. Assumes nothing.
-use Prim.Native.Nat.{ℕ, _/_, _≤_, _<_}
+use Prim.Native.Nat.{ℕ, _+_, _/_, _^_, _≤_, _<_}
 use mathlib.Core.Path.{_≡_}
 use mathlib.Core.Bool.{Bool, true, _&&_}
 use mathlib.Core.Logic.{⊎-elim}
@@ -7,8 +7,8 @@ use native.Mathlib.Nat.{eq-or-lt-of-le}
 use native.Mathlib.Omega.{arith}
 use lib.Dec.{ltb}
 use borrow.Author.Tests.{lt-ltb}
-use Rattle.units.specs.Clock.{distance}
-use Rattle.units.proofs.Laws.Clock.{distance-lt}
+use Rattle.units.specs.Clock.{after, distance}
+use Rattle.units.proofs.Laws.Clock.{distance-lt, distance-next}
 use Rattle.units.proofs.Laws.Folds.{Among, smallest-le, smallest-bound, smallest-found, largest-bounds, largest-found}
 use Rattle.state.specs.declared.Job.{Job}
 use Rattle.state.specs.declared.State.{State}
@@ -34,6 +34,11 @@ module _ (now : ℕ) where
   pub place-distance : (d k : ℕ) → k < 256 → place now d k / 256 ≡ distance now d
   unfolding place
   place-distance d k l = omega arith
+
+  -- with each tick a place ahead comes nearer
+  pub place-next : (d k : ℕ) → now < 2 ^ 32 → 1 ≤ distance now d → place (after now 1) d k + 256 ≡ place now d k
+  unfolding place
+  place-next d k h l = omega (arith, distance-next now d h l)
 
   pub place-lt : (d k : ℕ) → k < 256 → place now d k < noPlace
   unfolding place
