@@ -1,16 +1,8 @@
-// The first half of a tick: who runs, in which mode, at which speed.
-ghost use mathlib.Core.Path.{_≡_};
-ghost use Rattle.choice.specs.Choice.{turn, choice};
-use state::Half;
+// What a choice is: who runs, in which mode, at which speed. No code: specs/ has the rules of the first half of a tick, proofs/ their laws. `chooser` follows them.
 use state::Mark;
 use state::Mode;
 use state::Runner;
 use state::State;
-use table::Table;
-
-mod order;
-mod rules;
-mod runner;
 
 // Who runs, the mark that stands, the mode and the speed.
 pub struct Turn {
@@ -23,40 +15,4 @@ pub struct Turn {
 pub struct Choice {
     pub state: State,
     pub turn: Turn,
-}
-
-// What the rules give for a state, whichever half it is in.
-pub fn turn_of(table: Table, state: State) -> Turn
-    ensures { λ r. ⌜ r ≡ turn table state ⌝ }
-{
-    let top = order::first(state, false);
-    if top < State::NO_PLACE {
-        let run = runner::runner(table, state, top);
-        return rules::rules(table, state, top, run);
-    }
-    Turn {
-        runner: Runner::Nobody,
-        mark: Mark::Absent,
-        mode: Mode::Independent,
-        speed: 0,
-    }
-}
-
-// The turn, and the state with it in mid-tick.
-pub fn choose(table: Table, state: State) -> Choice
-    ensures { λ r. ⌜ r ≡ choice table state ⌝ }
-{
-    let turn = turn_of(table, state);
-    let runner = turn.runner;
-    let mark = turn.mark;
-    let jobs = runner::begin(state, runner);
-    let tick = state.tick;
-    let next = State {
-        tick,
-        jobs,
-        mark,
-        half: Half::Second,
-        runner,
-    };
-    Choice { state: next, turn }
 }

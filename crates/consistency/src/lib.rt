@@ -29,7 +29,7 @@ fn half_fits(table: Table, state: State, half: Half) -> bool
     match half {
         Half::First => middle::same_runner(Runner::Nobody, runner),
         Half::Second => {
-            let turn = choice::turn_of(table, state);
+            let turn = chooser::turn_of(table, state);
             middle::unchanged(state, turn)
         }
     }

@@ -73,7 +73,7 @@ pub fn choose(table: Table, state: State) -> Answer
     if mid_tick(half) {
         return Answer::bare(11, state);
     }
-    let choice = choice::choose(table, state);
+    let choice = chooser::choose(table, state);
     let next = choice.state;
     let turn = choice.turn;
     let runner = turn.runner;

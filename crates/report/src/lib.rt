@@ -78,7 +78,7 @@ fn report_idle(state: State, turn: Turn, said: Report) -> Answer
 pub fn report(table: Table, state: State, said: Report) -> Answer
     ensures { λ r. ⌜ r ≡ report table state said ⌝ }
 {
-    let turn = choice::turn_of(table, state);
+    let turn = chooser::turn_of(table, state);
     let runner = turn.runner;
     match runner {
         Runner::Nobody => report_idle(state, turn, said),

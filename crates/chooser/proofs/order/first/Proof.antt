@@ -1,0 +1,70 @@
+use Prim.Native.Nat.{_≤_, _-_}
+use mathlib.Core.Path.{_≡_, refl, _∙_, ap}
+use native.Mathlib.Omega.{arith}
+use mathlib.Core.Bool.{cond}
+use Rattle.units.specs.Folds.{over, smallest}
+use Rattle.units.proofs.Laws.Folds.{smallest-next}
+use Rattle.state.specs.State.{jobAt}
+use Rattle.state.specs.Order.{firstInOrder, placeAt, noPlace, isStarted, isPending}
+use borrow.Author.Needs.{needs}
+use Rattle.chooser.proofs.order.first.Statement.{statement}
+use Rattle.chooser.proofs.order.first.Tie as tie
+
+abbrev Inv-loop : tie.InvT-loop
+Inv-loop started self best₀ k₀ best k = (k ≤ 16) × (best ≡ smallest (λ k. cond started (isStarted (jobAt self k)) (isPending (jobAt self k))) (placeAt self) noPlace k)
+
+abbrev μ-loop : tie.MeasureT-loop
+μ-loop started self best₀ k₀ best k = 16 - k
+
+loop-holds : tie.Need-loop-holds Inv-loop μ-loop
+unfolding firstInOrder smallest over
+loop-holds c = (omega arith, refl)
+
+mul-job : tie.Need-mul-job Inv-loop μ-loop
+mul-job c = search needs
+
+element-copy-out-job : tie.Need-element-copy-out-job Inv-loop μ-loop
+element-copy-out-job c = search needs
+
+cast-place : tie.Need-cast-place Inv-loop μ-loop
+cast-place c = search needs
+
+place-requires : tie.Need-place-requires Inv-loop μ-loop
+place-requires c κs = search needs
+
+wanted-requires : tie.Need-wanted-requires Inv-loop μ-loop
+wanted-requires c κs = search needs
+
+nearer-requires : tie.Need-nearer-requires Inv-loop μ-loop
+nearer-requires c κs = search needs
+
+add-k : tie.Need-add-k Inv-loop μ-loop
+add-k c = search needs
+
+loop-less : tie.Need-loop-less Inv-loop μ-loop
+loop-less c = search needs
+
+loop-again : tie.Need-loop-again Inv-loop μ-loop
+loop-again c = (omega arith, smallest-next _ _ _ _ (c .before .before .before .before .before .before .loop .inv .1) (c .nearer .ensures ∙ rw (c .before .wanted .ensures, c .before .before .place .ensures)))
+
+returns : tie.Need-returns Inv-loop μ-loop
+unfolding firstInOrder
+returns c = c .before .loop .inv .1 ∙ ap (smallest _ _ _) (omega arith)
+
+pub first-spec : {M : Type 1} → statement M
+first-spec =
+    tie.close
+    (tie.spec
+    Inv-loop
+    μ-loop
+    loop-holds
+    mul-job
+    element-copy-out-job
+    cast-place
+    place-requires
+    wanted-requires
+    nearer-requires
+    add-k
+    loop-less
+    loop-again
+    returns)

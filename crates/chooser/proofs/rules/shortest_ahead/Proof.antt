@@ -1,0 +1,88 @@
+use Rattle.units.specs.declared.Ticks.{Ticks}
+use borrow.Author.Needs.{needs}
+use Prim.Native.Nat.{_≤_, _-_}
+use mathlib.Core.Path.{_≡_, refl, _∙_, ap}
+use mathlib.Core.Bool.{_&&_}
+use native.Mathlib.Omega.{arith}
+use lib.Dec.{ltb}
+use Rattle.units.specs.Amounts.{ticks}
+use Rattle.units.specs.Folds.{over, smallest}
+use Rattle.units.proofs.Laws.Folds.{smallest-next}
+use Rattle.table.specs.Table.{D}
+use Rattle.state.specs.State.{jobAt}
+use Rattle.state.specs.Order.{placeAt}
+use Rattle.choice.specs.Choice.{shortestAhead}
+use Rattle.chooser.proofs.rules.shortest_ahead.Statement.{statement}
+use Rattle.chooser.proofs.rules.shortest_ahead.Tie as tie
+
+abbrev Inv-loop : tie.InvT-loop
+Inv-loop run table state best₀ k₀ best k =
+    (k ≤ 16) × (best .0 ≡ smallest (λ k. jobAt state k .pending && ltb (placeAt state k) run) (D table) 65535 k)
+
+abbrev μ-loop : tie.MeasureT-loop
+μ-loop run table state best₀ k₀ best k = 16 - k
+
+loop-holds : tie.Need-loop-holds Inv-loop μ-loop
+unfolding smallest over
+loop-holds c = (omega arith, refl)
+
+mul-job : tie.Need-mul-job Inv-loop μ-loop
+mul-job c = search needs
+
+element-copy-out-job : tie.Need-element-copy-out-job Inv-loop μ-loop
+element-copy-out-job c = search needs
+
+mul-task : tie.Need-mul-task Inv-loop μ-loop
+mul-task c = search needs
+
+element-copy-out-task : tie.Need-element-copy-out-task Inv-loop μ-loop
+element-copy-out-task c = search needs
+
+cast-place : tie.Need-cast-place Inv-loop μ-loop
+cast-place c = search needs
+
+place-requires : tie.Need-place-requires Inv-loop μ-loop
+place-requires c κs = search needs
+
+is-ahead-requires : tie.Need-is-ahead-requires Inv-loop μ-loop
+is-ahead-requires c κs = search needs
+
+shorter-requires : tie.Need-shorter-requires Inv-loop μ-loop
+shorter-requires c κs = search needs
+
+add-k : tie.Need-add-k Inv-loop μ-loop
+add-k c = search needs
+
+loop-less : tie.Need-loop-less Inv-loop μ-loop
+loop-less c = search needs
+
+loop-again : tie.Need-loop-again Inv-loop μ-loop
+loop-again c = (
+  omega arith,
+  smallest-next _ _ _ _ (c .before .before .before .before .before .before .before .loop .inv .1)
+      (ap (λ (d : Ticks). d .0) (c .shorter .ensures) ∙ rw (c .before .is-ahead .ensures, c .before .before .place .ensures)),
+)
+
+returns : tie.Need-returns Inv-loop μ-loop
+unfolding shortestAhead
+returns c = let e : c .before .loop .k ≡ 16 = omega arith in rw (← e) (ap ticks (c .before .loop .inv .1))
+
+pub shortest-ahead-spec : {M : Type 1} → statement M
+shortest-ahead-spec =
+    tie.close
+    (tie.spec
+    Inv-loop
+    μ-loop
+    loop-holds
+    mul-job
+    element-copy-out-job
+    mul-task
+    element-copy-out-task
+    cast-place
+    place-requires
+    is-ahead-requires
+    shorter-requires
+    add-k
+    loop-less
+    loop-again
+    returns)

@@ -1,0 +1,56 @@
+use lib.Seq.{set-out}
+use mathlib.Core.Path.{_≡_, sym}
+use native.Mathlib.Nat.{le-trans, le-of-eq}
+use lib.ListN.{length}
+use Rattle.units.proofs.Laws.Folds.{long}
+use borrow.Author.Needs.{needs}
+use Rattle.chooser.proofs.runner.begin.Statement.{statement}
+use Rattle.chooser.proofs.runner.begin.Tie as tie
+
+enum-told : tie.Need-enum-told
+enum-told c = search needs
+
+enum-known-runner : tie.Need-enum-known-runner
+enum-known-runner c = search needs
+
+cast-k : tie.Need-cast-k
+cast-k c = search needs
+
+mul-job : tie.Need-mul-job
+mul-job c = search needs
+
+array-copy-out-job : tie.Need-array-copy-out-job
+array-copy-out-job c = search needs
+
+mul-jobs : tie.Need-mul-jobs
+mul-jobs c = search needs
+
+array-set-from-jobs : tie.Need-array-set-from-jobs
+array-set-from-jobs c = search needs
+
+returns : tie.Need-returns
+returns c = search needs
+
+returns-2 : tie.Need-returns-2
+returns-2 c = rw (c .before .before .before .runner .given .1)
+
+returns-3 : tie.Need-returns-3
+returns-3 c =
+    let l = c .before .before .before .before .before .args .state .jobs in
+    let h : length l ≡ 16 = search (needs, long) in
+    rw (c .before .before .runner .given .1) (sym (set-out l _ _ (le-trans (le-of-eq h) (c .if1 .left))))
+
+pub begin-spec : {M : Type 1} → statement M
+begin-spec =
+    tie.close
+    (tie.spec
+    enum-told
+    enum-known-runner
+    cast-k
+    mul-job
+    array-copy-out-job
+    mul-jobs
+    array-set-from-jobs
+    returns
+    returns-2
+    returns-3)
