@@ -45,7 +45,7 @@ module _ {t : Table} (passed : Passed t) where
   pub task-fits : Fits (tasks t)
   task-fits = fits t passes
 
-  -- the state stands; its jobs are in time in mid-tick; between ticks started jobs are nearer than their D; in mid-tick the choice made again changes nothing
+  -- the state stands, and its view has the invariant; between ticks nobody is on the processor, and started jobs are nearer than their D; in mid-tick the choice, made again, changes nothing
   pub record Good (s : State) : Type 0 where
     pub stands : Stands t s
     pub mid : Midway (tasks t) (view t s)
