@@ -98,8 +98,10 @@ abbrev pub begin : State → Runner → List Job
 begin s Runs.Nobody = s .jobs
 begin s (Runs.Job p) = set (s .jobs) p (begun (jobAt s p))
 
--- the state in mid-tick, and the turn
+-- the state "in mid-tick", by a turn
+abbrev pub inMidTick : State → Turn → State
+inMidTick s u = record { tick = s .tick; jobs = begin s (u .runner); mark = u .mark; half = Second; runner = u .runner }
+
+-- that state, and the turn
 unfoldable pub choice : Table → State → Choice
-choice t s =
-    let u = turn t s in
-    record { state = record { tick = s .tick; jobs = begin s (u .runner); mark = u .mark; half = Second; runner = u .runner }; turn = u }
+choice t s = let u = turn t s in record { state = inMidTick s u; turn = u }

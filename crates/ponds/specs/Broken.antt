@@ -52,11 +52,15 @@ abbrev pub strictly : Variant
 strictly = byRules λ t s. let p = positionOf (top s) in
     rules t s (cond (not (jobAt s p .started) && some (λ k. below t (D t p) (jobAt s k .held) && (jobAt s k .pending && not (eqb k p))) 16) (firstInOrder isStarted s) (top s))
 
+-- 01's own rules
+abbrev pub written : Variant
+written = byRules λ t s. rules t s (runner t s)
+
 -- 01's choice, and a report that makes something else of the runner's job
 abbrev pub byEnding : (Task → Report → ℕ → Job → Job) → Variant
 byEnding ending = record {
-  taken = byRules (λ t s. rules t s (runner t s)) .taken;
-  turn = byRules (λ t s. rules t s (runner t s)) .turn;
+  taken = written .taken;
+  turn = written .turn;
   said = λ t s u said.
       let p = positionOf (runner t s) in Report.finished s (set (s .jobs) p (ending (taskAt t p) said (u .speed) (jobAt s p))) u 0;
 }
@@ -89,47 +93,48 @@ wrong w t events = ends (lines w t (start t 0) (calls events))
 abbrev pub right : Table → List Event → ℕ × ℕ
 right t events = ends (History.lines t (start t 0) (calls events))
 
-abbrev pub one : Table
-one = table 2 24 3 (task 3 2 1 2 0 0 ∷ task 6 1 1 1 1 0 ∷ task 24 4 1 1 3 0 ∷ [])
+-- the tables, and two histories of another form
+abbrev pub overHolder : Table
+overHolder = table 2 24 3 (task 3 2 1 2 0 0 ∷ task 6 1 1 1 1 0 ∷ task 24 4 1 1 3 0 ∷ [])
 
-abbrev pub oneEvents : List Event
-oneEvents = (release 2 ∷ tick (Take 0) ∷ release 0 ∷ release 1 ∷ []) ++ (carry 3 ++ ((release 0 ∷ []) ++ carry 3))
+abbrev pub overHolderEvents : List Event
+overHolderEvents = (release 2 ∷ tick (Take 0) ∷ release 0 ∷ release 1 ∷ []) ++ (carry 3 ++ ((release 0 ∷ []) ++ carry 3))
 
-abbrev pub two : Table
-two = table 2 6 2 (task 2 1 1 2 1 0 ∷ task 6 3 1 1 2 0 ∷ [])
+abbrev pub inheriting : Table
+inheriting = table 2 6 2 (task 2 1 1 2 1 0 ∷ task 6 3 1 1 2 0 ∷ [])
 
-abbrev pub three : Table
-three = table 2 9 2 (task 3 2 1 2 1 0 ∷ task 9 5 2 2 3 0 ∷ [])
+abbrev pub marking : Table
+marking = table 2 9 2 (task 3 2 1 2 1 0 ∷ task 9 5 2 2 3 0 ∷ [])
 
-abbrev pub four : Table
-four = table 1 6 2 (task 3 2 1 1 1 0 ∷ task 6 2 1 1 1 0 ∷ [])
+abbrev pub sharing : Table
+sharing = table 1 6 2 (task 3 2 1 1 1 0 ∷ task 6 2 1 1 1 0 ∷ [])
 
-abbrev pub fourEvents : List Event
-fourEvents = takesThen 1 1 ++ (tick (Take 0) ∷ [])
+abbrev pub sharingEvents : List Event
+sharingEvents = takesThen 1 1 ++ (tick (Take 0) ∷ [])
 
-abbrev pub five : Table
-five = table 1 6 2 (task 2 1 1 1 1 0 ∷ task 6 3 1 1 2 0 ∷ [])
+abbrev pub blocking : Table
+blocking = table 1 6 2 (task 2 1 1 1 1 0 ∷ task 6 3 1 1 2 0 ∷ [])
 
-abbrev pub six : Table
-six = table 2 1 1 (task 1 1 2 2 0 0 ∷ [])
+abbrev pub shortBudget : Table
+shortBudget = table 2 1 1 (task 1 1 2 2 0 0 ∷ [])
 
-abbrev pub seven : Table
-seven = table 1 6 2 (task 2 1 1 1 1 0 ∷ task 6 3 1 1 1 0 ∷ [])
+abbrev pub shortSection : Table
+shortSection = table 1 6 2 (task 2 1 1 1 1 0 ∷ task 6 3 1 1 1 0 ∷ [])
 
 pub record Broken : Type 0 where
-  pub rule2 : (wrong withoutRule2 one oneEvents ≡ (16, 0)) × (right one oneEvents ≡ (0, 0))
-  pub rule1 : (wrong ownS two (takesThen 1 2) ≡ (16, 0)) × (right two (takesThen 1 2) ≡ (0, 0))
-  pub rule4 : (wrong markedAtI three (takesThen 1 3) ≡ (16, 0)) × (right three (takesThen 1 3) ≡ (0, 0))
+  pub rule2 : (wrong withoutRule2 overHolder overHolderEvents ≡ (16, 0)) × (right overHolder overHolderEvents ≡ (0, 0))
+  pub rule1 : (wrong ownS inheriting (takesThen 1 2) ≡ (16, 0)) × (right inheriting (takesThen 1 2) ≡ (0, 0))
+  pub rule4 : (wrong markedAtI marking (takesThen 1 3) ≡ (16, 0)) × (right marking (takesThen 1 3) ≡ (0, 0))
   -- the mark of place 0, one tick on, is further than 65,535 ticks ahead: 9
-  pub unmarked : markFits 2 2 (stateAfter runnerUnmarked three (start three 0) (calls (takesThen 1 1)) .mark) ≡ false
-  pub marked : right three (takesThen 1 1) ≡ (0, 0)
+  pub unmarked : markFits 2 2 (stateAfter runnerUnmarked marking (start marking 0) (calls (takesThen 1 1)) .mark) ≡ false
+  pub marked : right marking (takesThen 1 1) ≡ (0, 0)
   -- a take of what another job holds: 15
-  pub blocked : (wrong topRuns four fourEvents ≡ (15, 0)) × (right four fourEvents ≡ (0, 0))
-  pub ceiling : wrong strictly four fourEvents ≡ (15, 0)
+  pub blocked : (wrong topRuns sharing sharingEvents ≡ (15, 0)) × (right sharing sharingEvents ≡ (0, 0))
+  pub ceiling : wrong strictly sharing sharingEvents ≡ (15, 0)
   -- B left out of the test: number 8 by B alone, and by 01's rules 16
-  pub refusedByB : said five ≡ 8 ∷ 0 ∷ []
-  pub sumsFit : (independentSum five ≤ 6) × (sum (λ k. ticksInRound (C five k) (S five k) 6 (D five k)) 2 ≤ 6)
-  pub late : wrong (byRules (λ t s. rules t s (runner t s))) five (takesThen 1 2) ≡ (16, 0)
+  pub refusedByB : said blocking ≡ 8 ∷ 0 ∷ []
+  pub sumsFit : (independentSum blocking ≤ 6) × (sum (λ k. ticksInRound (C blocking k) (S blocking k) 6 (D blocking k)) 2 ≤ 6)
+  pub late : wrong written blocking (takesThen 1 2) ≡ (16, 0)
   -- the budget, and the section's limit, not enforced
-  pub budget : (wrong pastBudget six (release 0 ∷ carry 1) ≡ (16, 0)) × (right six (release 0 ∷ carry 1) ≡ (0, 0))
-  pub limit : (wrong pastLimit seven (takesThen 1 2) ≡ (16, 0)) × (right seven (takesThen 1 2) ≡ (0, 0))
+  pub budget : (wrong pastBudget shortBudget (release 0 ∷ carry 1) ≡ (16, 0)) × (right shortBudget (release 0 ∷ carry 1) ≡ (0, 0))
+  pub limit : (wrong pastLimit shortSection (takesThen 1 2) ≡ (16, 0)) × (right shortSection (takesThen 1 2) ≡ (0, 0))

@@ -3,8 +3,8 @@ use Prim.Native.Nat.{ℕ}
 use mathlib.Core.{Bool.cond, List.List, List.[], List._∷_}
 use lib.Dec.{ltb}
 use Rattle.table.specs.{declared.Table.Table}
-use Rattle.state.specs.{declared.State.State, declared.Answer.Answer, declared.Half.the-variants.Second, declared.Report.Report, State.jobAt, Order.noPlace, Answers.bare}
-use Rattle.choice.specs.{declared.Turn.Turn, Choice.top, Choice.idle, Choice.begin}
+use Rattle.state.specs.{declared.State.State, declared.Answer.Answer, declared.Report.Report, State.jobAt, Order.noPlace, Answers.bare}
+use Rattle.choice.specs.{declared.Turn.Turn, Choice.top, Choice.idle, Choice.inMidTick}
 use Rattle.report.specs.Report.{reportAs}
 use Rattle.machine.specs.Machine.{releasedAt, chosen}
 use Rattle.promise.specs.History.{Call, release, choose, report, Line, current}
@@ -26,8 +26,7 @@ byRules rules = record {
 abbrev pub answered : Variant → Table → State → Call → Answer
 answered w t s (release p) = cond (ltb 0 (jobAt s p .wait .0)) (bare 12 s) (bare 0 (w .taken t s p))
 answered w t s choose =
-    let u = w .turn t s in
-    chosen (record { state = record { tick = s .tick; jobs = begin s (u .runner); mark = u .mark; half = Second; runner = u .runner }; turn = u })
+    let u = w .turn t s in chosen (record { state = inMidTick s u; turn = u })
 answered w t s (report said) = w .said t s (w .turn t s) said
 
 -- histories under it, as those under 01's rules

@@ -19,14 +19,13 @@ use Rattle.state.specs.declared.State.{State}
 use Rattle.state.specs.declared.Place.{Place}
 use Rattle.state.specs.declared.Mark.{Mark}
 use Rattle.state.specs.declared.Mark.the-variants.{Absent, At}
-use Rattle.state.specs.declared.Half.the-variants.{Second}
 use Rattle.state.specs.declared.Runner.{Runner}
 use Rattle.state.specs.declared.Runner.the-variants as Runs
 use Rattle.state.specs.State.{noJob, jobAt}
 use Rattle.state.specs.Order.{place, placeAt, positionOf, noPlace, isHolder, holdsAny, lastHolder}
 use Rattle.state.proofs.Laws.Order.{place-distance, place-position, last-bounds, last-found}
 use Rattle.choice.specs.declared.Turn.{Turn}
-use Rattle.choice.specs.Choice.{synchronized, alone, top, runner, rules, idle, turn, begun, begin, choice, markPlace, markAt}
+use Rattle.choice.specs.Choice.{synchronized, alone, top, runner, rules, idle, turn, begun, begin, inMidTick, choice, markPlace, markAt}
 use Rattle.choice.proofs.Laws.Ready.{Ready, runs-at, runs-position}
 use Rattle.choice.proofs.Laws.Rules.{mark-back, rule-1, rule-2, rule-3, rule-4, rule-5, Fits, one, two, three, four, five, fits, rules-runner}
 use Rattle.choice.proofs.Laws.Runner.{turn-runs, turn-idle}
@@ -48,8 +47,7 @@ good-lt t k g = omega (arith, g .1)
 
 -- ---- the state of the choice
 
-pub choice-is : (t : Table) (s : State)
-    → choice t s .state ≡ record { tick = s .tick; jobs = begin s (turn t s .runner); mark = turn t s .mark; half = Second; runner = turn t s .runner }
+pub choice-is : (t : Table) (s : State) → choice t s .state ≡ inMidTick s (turn t s)
 unfolding choice
 choice-is t s = refl
 

@@ -11,7 +11,6 @@ use Rattle.units.proofs.Laws.Amounts.{given-more}
 use Rattle.table.specs.declared.Table.{Table}
 use Rattle.table.specs.Table.{taskAt, D, ceilings}
 use Rattle.state.specs.declared.Job.{Job}
-use Rattle.state.specs.declared.Half.the-variants.{Second}
 use Rattle.state.specs.declared.Mark.{Mark}
 use Rattle.state.specs.declared.Mark.the-variants.{Absent, At}
 use Rattle.state.specs.declared.Place.{Place}
@@ -20,10 +19,11 @@ use Rattle.state.specs.State.{jobAt}
 use Rattle.state.specs.Order.{place, placeAt, positionOf, noPlace, isPending, isStarted, isHolder, holdsAny}
 use Rattle.state.proofs.Laws.Order.{nearer-first, first-le, first-found, place-position, place-distance}
 use Rattle.choice.specs.declared.Turn.{Turn}
-use Rattle.choice.specs.Choice.{alone, top, bars, blocked, runner, turn, begun, begin, choice, markPlace}
+use Rattle.choice.specs.Choice.{alone, top, bars, blocked, runner, turn, begun, inMidTick, choice, markPlace}
 use Rattle.choice.proofs.Laws.Choice as Law
 use Rattle.choice.proofs.Laws.Ready.{Ready, blocked-tells, blocked-holds, runs-started}
-use Rattle.choice.proofs.Laws.Runner.{runner-blocked, runner-free}
+use Rattle.choice.proofs.Laws.Runner.{named, runner-blocked, runner-free}
+use Rattle.state.specs.declared.Runner.the-variants as Runs
 use Rattle.consistency.proofs.Laws.Facts.{MarkFits}
 use Rattle.promise.specs.Promise.{Passed}
 use Rattle.promise.proofs.Core.Choice as Core
@@ -33,7 +33,7 @@ use Rattle.promise.proofs.Edge.Invariant.{passes, Good, sees, is-ready}
 
 -- the state in mid-tick
 abbrev pub chosenState : Table → State → State
-chosenState t s = record { tick = s .tick; jobs = begin s (turn t s .runner); mark = turn t s .mark; half = Second; runner = turn t s .runner }
+chosenState t s = inMidTick s (turn t s)
 
 -- the place of a mark
 abbrev marked-place : Place → Mark → Place
@@ -66,6 +66,10 @@ module _ {t : Table} {passed : Passed t} {s : State} (good : Good passed s) (som
 
   abbrev next : State
   next = chosenState t s
+
+  -- the job that runs is the one at `at`
+  pub runs-at : (p : ℕ) → turn t s .runner ≡ Runs.Job p → at ≡ p
+  runs-at p e = named (sym (Law.runner-is t s ready some) ∙ e)
 
   -- ---- the jobs
 

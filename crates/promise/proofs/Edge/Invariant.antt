@@ -3,6 +3,7 @@ use Prim.Native.Nat.{ℕ, _^_, _≤_, _<_}
 use mathlib.Core.Path.{_≡_, sym, ap, _∙_}
 use mathlib.Core.Bool.{true, false≢true}
 use native.Mathlib.Decide.{decLt}
+use native.Mathlib.Omega.{arith}
 use lib.ListN.{length}
 use Rattle.units.specs.Clock.{tick}
 use Rattle.table.specs.declared.Table.{Table}
@@ -13,6 +14,9 @@ use Rattle.state.specs.declared.Runner.the-variants as Runs
 use Rattle.state.specs.declared.State.{State}
 use Rattle.state.specs.State.{noJob, jobAt, empty}
 use Rattle.state.proofs.Laws.Fresh.{no-more, empty-is, empty-long, empty-job}
+use Rattle.state.specs.Order.{noPlace, isPending}
+use Rattle.state.proofs.Laws.Order.{first-le, place-lt}
+use Rattle.choice.specs.Choice.{top}
 use Rattle.choice.proofs.Laws.Ready.{Ready}
 use Rattle.consistency.specs.Consistency.{consistent}
 use Rattle.machine.specs.Machine.{midTick}
@@ -21,7 +25,7 @@ use Rattle.consistency.proofs.Laws.Middle.{ready}
 use Rattle.promise.specs.Promise.{Passed}
 use Rattle.promise.proofs.Core.Tasks.{Fits}
 use Rattle.promise.proofs.Core.View.{Lawful, Nearer, Midway, Between, fresh}
-use Rattle.promise.proofs.Edge.View.{tasks, fits, view, Stands, lawful}
+use Rattle.promise.proofs.Edge.View.{tasks, fits, view, Stands, below-16, lawful}
 
 -- a consistent state stands
 pub consistent-stands : (t : Table) (s : State) → Consistent t s → length (s .jobs) ≡ 16 → s .tick .0 < 2 ^ 32 → Stands t s
@@ -107,3 +111,9 @@ module _ {t : Table} {passed : Passed t} {s : State} (good : Good passed s) wher
 
   pub is-ready : Ready t s
   is-ready = ready t s facts (good .stands .long) (good .stands .now)
+
+  -- where a job is pending there is a top
+  pub some-top : (k : ℕ) → jobAt s k .pending ≡ true → top s < noPlace
+  some-top k p =
+      let l = below-16 (passes passed) (good .stands) k p in
+      omega (arith, first-le s isPending k l p, place-lt (s .tick .0) (jobAt s k .deadline .0) k (omega arith))

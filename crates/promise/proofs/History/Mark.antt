@@ -21,13 +21,12 @@ use Rattle.state.specs.declared.Report.{Report}
 use Rattle.state.specs.declared.Runner.the-variants as Runs
 use Rattle.state.specs.declared.State.{State}
 use Rattle.state.specs.State.{jobAt}
-use Rattle.state.specs.Order.{isPending, place, placeAt, noPlace, positionOf, holdsAny, isHolder, lastHolder}
+use Rattle.state.specs.Order.{place, placeAt, noPlace, positionOf, holdsAny, isHolder, lastHolder}
 use Rattle.state.proofs.Laws.Fresh.{empty-is}
-use Rattle.state.proofs.Laws.Order.{place-distance, place-lt, place-next, first-le, last-found}
+use Rattle.state.proofs.Laws.Order.{place-distance, place-next, last-found}
 use Rattle.choice.specs.declared.Turn.{Turn}
 use Rattle.choice.specs.Choice.{alone, top, runner, turn, markPlace, oldMark}
 use Rattle.choice.proofs.Laws.Choice as Law
-use Rattle.choice.proofs.Laws.Runner.{named}
 use Rattle.report.specs.declared.Outcome.{Outcome}
 use Rattle.report.specs.Report as Report
 use Rattle.report.specs.Report.{closed, waited}
@@ -38,7 +37,7 @@ use Rattle.machine.proofs.Laws.Calls.{released-job, released-others}
 use Rattle.promise.specs.History.{Call, lines, start}
 use Rattle.promise.specs.Promise.{Passed}
 use Rattle.promise.proofs.Edge.Choice as Chosen
-use Rattle.promise.proofs.Edge.Invariant.{passes, Good, is-ready, sees}
+use Rattle.promise.proofs.Edge.Invariant.{some-top, passes, Good, is-ready, sees}
 use Rattle.promise.proofs.Edge.View.{marked, below-16}
 use Rattle.promise.proofs.History.Start.{start-is, at, at-good, made}
 use Rattle.promise.proofs.Keep.Made.{Made, refused, takes-on, chooses, idles, runs}
@@ -93,10 +92,7 @@ module _ {t : Table} {passed : Passed t} {s : State} (good : Good passed s) (las
   -- a tick: all comes one nearer, and the runner, which may have taken something, is at the mark or ahead of it
   module _ (h : s .half ≡ Second) (p : ℕ) (said : Report) (runs-p : turn t s .runner ≡ Runs.Job p) (there : jobAt s p .pending ≡ true) where
     some : top s < noPlace
-    some = omega (arith, first-le s isPending p below-p there, place-lt (s .tick .0) (jobAt s p .deadline .0) p (omega (arith, below-p)))
-      where
-        below-p : p < 16
-        below-p = below-16 (passes passed) (good .stands) p there
+    some = some-top good p there
 
     abbrev job : Job
     job = outcome t s (turn t s) p said .job
@@ -106,7 +102,7 @@ module _ {t : Table} {passed : Passed t} {s : State} (good : Good passed s) (las
 
     -- the runner, before its tick
     runner-at : positionOf (runner t s) ≡ p
-    runner-at = named (sym (Law.runner-is t s (is-ready good) some) ∙ runs-p)
+    runner-at = Chosen.runs-at good some p runs-p
 
     runner-reaches : (m : Place) → s .mark ≡ At m → placeAt s p ≤ markPlace (s .tick .0) (At m)
     runner-reaches m e = go (Law.marked-or-alone t s (is-ready good) some)

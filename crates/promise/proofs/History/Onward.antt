@@ -18,9 +18,8 @@ use Rattle.state.specs.declared.Report.{Report}
 use Rattle.state.specs.declared.Runner.the-variants as Runs
 use Rattle.state.specs.declared.State.{State}
 use Rattle.state.specs.State.{jobAt}
-use Rattle.state.specs.Order.{noPlace, isPending}
+use Rattle.state.specs.Order.{noPlace}
 use Rattle.state.specs.Answers.{bare}
-use Rattle.state.proofs.Laws.Order.{first-le, place-lt}
 use Rattle.choice.specs.Choice.{top, turn, begun, choice}
 use Rattle.choice.proofs.Laws.Choice as Law
 use Rattle.report.specs.Report.{waited}
@@ -33,7 +32,7 @@ use Rattle.promise.specs.History.{ticksClosed, Call, release, choose, re
 use Rattle.promise.specs.Promise.{Passed}
 use Rattle.promise.proofs.Edge.Choice as Chosen
 use Rattle.promise.proofs.Edge.View.{below-16}
-use Rattle.promise.proofs.Edge.Invariant.{passes, Good}
+use Rattle.promise.proofs.Edge.Invariant.{some-top, passes, Good}
 use Rattle.promise.proofs.Keep.Made.{Made, refused, takes-on, chooses, idles, runs}
 use Rattle.promise.proofs.History.Tells.{Tells, Onward, quiet, foreign, no-number}
 use Rattle.promise.proofs.History.Own.{own-tick}
@@ -43,7 +42,7 @@ module _ {t : Table} {passed : Passed t} {s : State} (good : Good passed s) (k :
   below = below-16 (passes passed) (good .stands) k (w .pending)
 
   some : top s < noPlace
-  some = omega (arith, first-le s isPending k below (w .pending), place-lt (s .tick .0) (jobAt s k .deadline .0) k (omega (arith, below)))
+  some = some-top good k (w .pending)
 
   -- a tick brings the deadline one nearer
   nearer : (d : ℕ) → d ≡ jobAt s k .deadline .0 → distance (after (s .tick .0) 1) d + 1 ≡ distance (s .tick .0) (jobAt s k .deadline .0)

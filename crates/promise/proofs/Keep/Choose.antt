@@ -17,10 +17,8 @@ use Rattle.state.specs.declared.Mark.the-variants.{Absent}
 use Rattle.state.specs.declared.Runner.the-variants as Runs
 use Rattle.state.specs.declared.State.{State}
 use Rattle.state.specs.State.{jobAt}
-use Rattle.state.specs.Order.{noPlace, isPending}
-use Rattle.state.proofs.Laws.Order.{first-le, place-lt}
-use Rattle.choice.specs.declared.Turn.{Turn}
-use Rattle.choice.specs.Choice.{top, turn, begin, choice}
+use Rattle.state.specs.Order.{noPlace}
+use Rattle.choice.specs.Choice.{top, turn, inMidTick, choice}
 use Rattle.choice.proofs.Laws.Again.{choice-again}
 use Rattle.choice.proofs.Laws.Choice as Law
 use Rattle.consistency.proofs.Laws.Facts.{Unchanged}
@@ -31,9 +29,9 @@ use Rattle.promise.specs.History.{choose, answered}
 use Rattle.promise.specs.Promise.{Passed}
 use Rattle.promise.proofs.Core.Choice as CoreChoice
 use Rattle.promise.proofs.Core.View.{Midway, fresh}
-use Rattle.promise.proofs.Edge.View.{tasks, marked, view, JobStands, Stands, inside, below-16}
+use Rattle.promise.proofs.Edge.View.{tasks, marked, view, JobStands, Stands, inside}
 use Rattle.promise.proofs.Edge.Choice as Chosen
-use Rattle.promise.proofs.Edge.Invariant.{passes, Good, sees, is-ready}
+use Rattle.promise.proofs.Edge.Invariant.{some-top, passes, Good, sees, is-ready}
 use Rattle.promise.proofs.Keep.Made.{chooses, Next, refuses, steady, middle, between}
 
 module _ {t : Table} {passed : Passed t} {s : State} (good : Good passed s) where
@@ -101,17 +99,14 @@ module _ {t : Table} {passed : Passed t} {s : State} (good : Good passed s) wher
   -- no job is pending
   module _ (none : noPlace ≤ top s) where
     pub nobody-pending : (k : ℕ) → jobAt s k .pending ≡ true → ⊥
-    nobody-pending k p =
-        let l = below-16 (passes passed) (good .stands) k p in
-        omega (arith, first-le s isPending k l p, place-lt (s .tick .0) (jobAt s k .deadline .0) k (omega arith))
+    nobody-pending k p = omega (arith, some-top good k p)
 
     -- the same jobs, and no mark
     abbrev idle-state : State
     idle-state = record { tick = s .tick; jobs = s .jobs; mark = Absent; half = Second; runner = Runs.Nobody }
 
     idle-is : picked ≡ idle-state
-    idle-is =
-        ap (λ (u : Turn). record { tick = s .tick; jobs = begin s (u .runner); mark = u .mark; half = Second; runner = u .runner }) (Law.idle-turn t s none)
+    idle-is = ap (inMidTick s) (Law.idle-turn t s none)
 
     idle-stands : Stands t idle-state
     idle-stands = record {

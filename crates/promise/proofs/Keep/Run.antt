@@ -25,7 +25,7 @@ use Rattle.choice.specs.declared.Turn.{Turn}
 use Rattle.choice.proofs.Laws.Bars.{bars-holds}
 use Rattle.choice.specs.Choice.{top, bars, turn, begun}
 use Rattle.choice.proofs.Laws.Choice as Law
-use Rattle.choice.proofs.Laws.Runner.{named, nobody}
+use Rattle.choice.proofs.Laws.Runner.{nobody}
 use Rattle.report.specs.Report.{closed, late, objection}
 use Rattle.report.proofs.Laws.Jobs.{settled-is}
 use Rattle.report.proofs.Laws.Answers.{taken-answer, Fair, Objection, holding, never, taken, objection-is, carrying, held-by, held-by-none, in-time, outcome, run-objects, run-closes}
@@ -40,7 +40,7 @@ use Rattle.promise.proofs.Core.Close as CoreClose
 use Rattle.promise.proofs.Core.View.{Lawful, Between}
 use Rattle.promise.proofs.Edge.View.{tasks, marked, markDistance, view, Stands, left-barred, inside}
 use Rattle.promise.proofs.Edge.Choice as Chosen
-use Rattle.promise.proofs.Edge.Invariant.{passes, task-fits, Good, sees, is-ready, rests}
+use Rattle.promise.proofs.Edge.Invariant.{passes, task-fits, Good, sees, rests}
 use Rattle.promise.proofs.Edge.Runner.{After, after}
 use Rattle.promise.proofs.Edge.Tick.{Free, closed-stands, ticked}
 use Rattle.promise.proofs.Keep.Made.{runs, Next, refuses, steady, middle}
@@ -64,7 +64,7 @@ module _ {t : Table} {passed : Passed t} {s : State} (good : Good passed s) (h :
     top-at = first good some
 
     at-p : at good some ≡ p
-    at-p = named (sym (Law.runner-is t s (is-ready good) some) ∙ runs-p)
+    at-p = Chosen.runs-at good some p runs-p
 
     runs-as : CoreChoice.Chosen (tasks t) (view t s) (view t s) p top-at steps
     runs-as =
