@@ -3,4 +3,3 @@ pub mod Held
 pub mod Jobs
 pub mod Middle
 pub mod Places
-pub mod Tests

@@ -3,3 +3,4 @@ pub mod Clock
 pub mod Folds
 pub mod Sets
 pub mod Sums
+pub mod Tests

@@ -20,7 +20,7 @@ use Rattle.state.specs.declared.Held.the-variants.{Nothing, In}
 use Rattle.state.specs.State.{noJob}
 use Rattle.state.specs.Order.{holdsAny}
 use Rattle.consistency.specs.Consistency.{notPendingFits, pendingFits, startedFits, heldFits, waitFits, jobFits, unused}
-use Rattle.consistency.proofs.Laws.Tests.{cond-yes, cond-no}
+use Rattle.units.proofs.Laws.Tests.{cond-yes, cond-no}
 
 -- ---- the facts
 

@@ -21,7 +21,7 @@ use Rattle.state.specs.State.{jobAt, noJob}
 use Rattle.state.specs.Order.{holdsAny, withHeld}
 use Rattle.state.proofs.Laws.Holders.{heldBelow, held-next}
 use Rattle.consistency.specs.Consistency.{positionFits, alone, isTaken, positionsFit}
-use Rattle.consistency.proofs.Laws.Tests.{cond-yes, cond-no}
+use Rattle.units.proofs.Laws.Tests.{cond-yes, cond-no}
 use Rattle.consistency.proofs.Laws.Jobs.{JobFits, job-tells, job-holds, unused-tells, unused-holds, takes-one-of-8}
 use Rattle.consistency.proofs.Laws.Held.{Once, once-none, once-next, once-tells, once-holds, taken-tells, free-tells}
 

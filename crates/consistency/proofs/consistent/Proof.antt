@@ -1,5 +1,5 @@
 use borrow.Author.Tests.{eq-eqb, ne-eqb}
-use Rattle.consistency.proofs.Laws.Tests.{passed, failed}
+use Rattle.units.proofs.Laws.Tests.{passed, failed}
 use Rattle.state.specs.State.{passes}
 use Rattle.consistency.specs.Consistency.{consistent}
 use borrow.Author.Needs.{needs}

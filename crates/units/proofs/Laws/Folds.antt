@@ -94,6 +94,13 @@ unfolding all over
 all-holds p zero h = refl
 all-holds p (suc n) h = simp (all-holds p n (λ k l. h k (omega arith)), h n (le-refl (suc n)))
 
+pub all-fails : (p : ℕ → Bool) (n k : ℕ) → k < n → p k ≡ false → all p n ≡ false
+all-fails p n k l h = go (all p n) refl
+  where
+    go : (b : Bool) → all p n ≡ b → all p n ≡ false
+    go true e = absurd (false≢true (sym h ∙ all-tells p n e k l))
+    go false e = e
+
 pub largest-bounds : (p : ℕ → Bool) (f : ℕ → ℕ) (n : ℕ) (k : ℕ) → k < n → p k ≡ true → f k ≤ largest p f n
 unfolding largest over
 largest-bounds p f zero k l h = absurd (not-suc-le-zero l)

@@ -1,6 +1,6 @@
 use mathlib.Core.Path.{sym, _∙_}
 use borrow.Author.Tests.{le-leb, lt-leb}
-use Rattle.consistency.proofs.Laws.Tests.{passed, failed, cond-yes, cond-no}
+use Rattle.units.proofs.Laws.Tests.{passed, failed, cond-yes, cond-no}
 use Rattle.consistency.specs.Consistency.{jobFits, waitFits}
 use borrow.Author.Needs.{needs}
 use Rattle.consistency.proofs.jobs.job_fits.Statement.{statement}

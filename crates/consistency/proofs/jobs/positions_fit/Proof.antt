@@ -2,7 +2,7 @@ use Prim.Native.Nat.{_-_}
 use mathlib.Core.Path.{sym, _∙_}
 use native.Mathlib.Omega.{arith}
 use Rattle.consistency.specs.Consistency.{positionFits}
-use Rattle.consistency.proofs.Laws.Tests.{passed, failed}
+use Rattle.units.proofs.Laws.Tests.{passed, failed}
 use Rattle.consistency.proofs.Laws.Places.{Walked, walk-none, walk-unfit, walk-taken, walk-next, walk-end}
 use borrow.Author.Needs.{needs}
 use Rattle.consistency.proofs.jobs.positions_fit.Statement.{statement}

@@ -1,0 +1,4 @@
+pub mod Pieces
+pub mod Lengths
+pub mod Whole
+pub mod Following

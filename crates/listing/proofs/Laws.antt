@@ -1,0 +1,58 @@
+-- Laws of the listing. Assumes nothing.
+use Prim.Native.Nat.{ℕ, zero, suc, _+_, _*_, _≤_}
+use mathlib.Core.Path.{_≡_, refl, _∙_}
+use mathlib.Core.Bool.{true}
+use mathlib.Core.List.{List, [], _++_, append-nil}
+use native.Mathlib.Omega.{arith}
+use lib.ListN.{length, length-append}
+use borrow.Author.Tests.{eq-eqb, ne-eqb}
+use Rattle.units.specs.Folds.{over}
+use Rattle.units.proofs.Laws.Folds.{over-more}
+use Rattle.table.specs.declared.Table.{Table}
+use Rattle.admission.specs.Admission.{answer, verdict}
+use Rattle.units.specs.declared.Tick.{Tick}
+use Rattle.state.specs.{declared.State.State, declared.Start.Start, State.fresh}
+use Rattle.records.specs.{declared.Event.Event, Records.firstEvent, Records.events, Contents.table, Contents.start, Contents.event}
+use Rattle.lines.specs.declared.Line.the-variants as Line
+use Rattle.lines.specs.Lines.{text}
+use Rattle.lines.proofs.Laws.{Lengths.text-le, Whole.Written, Whole.wrote, Following.Filled, Following.filled-first}
+use Rattle.listing.specs.declared.Step.{Step}
+use Rattle.listing.specs.Listing.{step, more, page, listed}
+
+module _ (file : List ℕ) (t : Table) (s : State) where
+  -- a line is at most 64 bytes long
+  pub page-le : (k : ℕ) → length (page file t s k .text) ≤ 64 * k
+  unfolding page over more
+  page-le zero = omega arith
+  page-le (suc k) =
+      let x = step t (page file t s k .state) (event file (firstEvent file + k)) in
+      omega (arith, length-append (page file t s k .text) (text (x .line)), text-le (x .line), page-le k)
+
+  -- one event more
+  pub page-more : (k : ℕ) {now : State} {first : ℕ} {e : Event} {x : Step}
+      → now ≡ page file t s k .state → first ≡ firstEvent file → e ≡ event file (first + k) → x ≡ step t now e
+      → (page file t s k .text ++ text (x .line) ≡ page file t s (k + 1) .text) × (x .state ≡ page file t s (k + 1) .state)
+  unfolding page more
+  page-more k {now} {first} {e} {x} h f said is =
+      let next = over-more (λ j. true) (more file t) (record { text = []; state = s }) k in
+      let same : x ≡ step t (page file t s k .state) (event file (firstEvent file + k)) = is ∙ rw (h, said, f) refl in
+      (rw (next, same) refl, rw (next, same) refl)
+
+-- the table's line, written
+pub first-line : {m : List ℕ} {r : ℕ} (l : List ℕ) (n : ℕ) → 64 ≤ length l → Written 64 l (text (Line.Table n)) r m → Filled l (text (Line.Table n)) m r
+first-line l n h w = filled-first l (text (Line.Table n)) (omega (arith, text-le (Line.Table n))) (wrote 64 l (text (Line.Table n)) h w)
+
+-- a table that does not pass, and one that does
+module _ (file : List ℕ) {t : Table} {now : Tick} {s : Start} {n : ℕ}
+    (reads : t ≡ table file) (begins : now ≡ start file) (starts : s ≡ fresh t now) (says : n ≡ answer (s .verdict) .0) where
+  number-is : n ≡ answer (verdict (table file)) .0
+  unfolding fresh
+  number-is = says ∙ rw (starts, reads) refl
+
+  pub listed-stops : (n ≡ 0 → ⊥) → listed file ≡ text (Line.Table n)
+  unfolding listed
+  listed-stops h = rw (← number-is, ne-eqb _ _ h) (append-nil _)
+
+  pub listed-goes : n ≡ 0 → listed file ≡ text (Line.Table n) ++ page file t (s .state) (events file) .text
+  unfolding listed
+  listed-goes h = rw (← number-is, eq-eqb _ _ h, starts, begins, reads) refl

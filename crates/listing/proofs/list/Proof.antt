@@ -1,0 +1,60 @@
+use Prim.Native.Nat.{_≤_}
+use native.Mathlib.Omega.{arith}
+use lib.ListN.{length}
+use Rattle.units.proofs.Laws.Tests.{passed, failed}
+use Rattle.records.proofs.Laws.{lines-within}
+use Rattle.lines.specs.Lines.{text}
+use Rattle.lines.specs.declared.Line.the-variants as Line
+use Rattle.lines.proofs.Laws.Whole.{wrote, unwritten, writes}
+use Rattle.listing.specs.Listing.{listed, listing}
+use borrow.Author.Needs.{needs}
+use Rattle.listing.proofs.list.Statement.{statement}
+use Rattle.listing.proofs.list.Tie as tie
+
+returns : tie.Need-returns
+returns c = unwritten 131072 _ (listing (c .before .before .before .args .file .now)) (c .if1 .taken)
+
+well-formed-requires : tie.Need-well-formed-requires
+well-formed-requires c κs = search needs
+
+write-requires : tie.Need-write-requires
+write-requires c κs = search needs
+
+same-length : tie.Need-same-length
+same-length c = search needs
+
+returns-2 : tie.Need-returns-2
+unfolding listing
+returns-2 c =
+    let l = c .before .before .before .before .before .before .before .before .before .args .out .now in
+    let room : 131072 ≤ length l = omega (arith, c .before .before .before .before .before .before .if1 .left) in
+    rw (failed (c .before .before .before .before .before .well-formed .ensures) (c .before .before .before .before .if2 .taken))
+    (writes 131072 l (text (Line.Table 1)) room (wrote 64 l (text (Line.Table 1)) (omega arith) (c .before .before .write .ensures)))
+
+write-listed-requires : tie.Need-write-listed-requires
+write-listed-requires c κs =
+    omega (arith, lines-within (c .before .before .before .before .before .before .args .file .now) (passed (c .before .before .well-formed .ensures) (c .before .if2 .left)), c .before .before .before .if1 .left)
+
+same-length-2 : tie.Need-same-length-2
+same-length-2 c = search needs
+
+returns-3 : tie.Need-returns-3
+unfolding listing
+returns-3 c =
+    let a = c .before .before .before .before .before .before .before .before .before .args in
+    let room : 131072 ≤ length (a .out .now) = omega (arith, c .before .before .before .before .before .before .if1 .left) in
+    rw (passed (c .before .before .before .before .before .well-formed .ensures) (c .before .before .before .before .if2 .left))
+    (writes 131072 (a .out .now) (listed (a .file .now)) room (c .before .before .write-listed .ensures))
+
+pub list-spec : {M : Type 1} → statement M
+list-spec =
+    tie.close
+    (tie.spec
+    returns
+    well-formed-requires
+    write-requires
+    same-length
+    returns-2
+    write-listed-requires
+    same-length-2
+    returns-3)

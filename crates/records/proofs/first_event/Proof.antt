@@ -1,0 +1,17 @@
+use native.Mathlib.Omega.{arith}
+use Rattle.records.proofs.Laws.{tasks-within}
+use borrow.Author.Needs.{needs}
+use Rattle.records.proofs.first_event.Statement.{statement}
+use Rattle.records.proofs.first_event.Tie as tie
+
+tasks-requires : tie.Need-tasks-requires
+tasks-requires c κs = search needs
+
+add-result : tie.Need-add-result
+add-result c = omega (arith, c .tasks .ensures, tasks-within (c .before .before .args .file .now))
+
+returns : tie.Need-returns
+returns c = search needs
+
+pub first-event-spec : {M : Type 1} → statement M
+first-event-spec = tie.close (tie.spec tasks-requires add-result returns)
