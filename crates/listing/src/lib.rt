@@ -1,7 +1,7 @@
 // The listing of a record file.
 ghost use mathlib.Core.Path.{_≡_};
 ghost use Prim.Native.Nat.{_+_, _*_, _≤_};
-ghost use lib.ListN.{length};
+ghost use lib.ListN.{length, take};
 ghost use Rattle.lines.specs.Lines.{laid, holds, taken};
 ghost use Rattle.records.specs.Records.{events};
 ghost use Rattle.listing.specs.Listing.{page, listed, listing};
@@ -56,8 +56,10 @@ fn write_listed(file: &[u8], out: &mut [u8]) -> usize
 }
 
 // Writes the whole listing at the start of the output, and answers how long it is. Output of less than ROOM bytes is not written to.
+// The second promise follows from the first: with it a caller can take the listing out without a proof of its own.
 pub fn list(file: &[u8], out: &mut [u8]) -> usize
     ensures { λ r. ⌜ (now (out .exit) ≡ holds 131072 (now (out .entry)) (listing (now (file .entry)))) × (r ≡ taken 131072 (now (out .entry)) (listing (now (file .entry)))) ⌝ }
+    ensures { λ r. ⌜ (r ≤ length (now (out .exit))) × (r ≡ length (take r (now (out .exit)))) ⌝ }
 {
     if out.len() < ROOM {
         return 0;

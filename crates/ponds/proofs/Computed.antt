@@ -16,6 +16,11 @@ use Rattle.report.specs.Report as Report
 use Rattle.consistency.specs.Consistency.{notPendingFits, pendingFits, startedFits, waitFits, jobFits, unused, positionFits, positionsFit, unchanged, consistent}
 use Rattle.machine.specs.Machine as Machine
 use Rattle.promise.specs.History.{lines, ticksClosed, stepsGiven, section, endsAt, hasEnded}
+use Rattle.records.specs.Bytes as Bytes
+use Rattle.records.specs.Records as Records
+use Rattle.records.specs.Contents as Contents
+use Rattle.lines.specs.Lines as Lines
+use Rattle.listing.specs.Listing as Listing
 use Rattle.ponds.specs.Ponds.{p5, ponds, Worked}
 use Rattle.ponds.specs.Runs as Runs
 use Rattle.ponds.specs.Histories.{calls, refused, P5, rollOver, RollOver}
@@ -37,7 +42,7 @@ rollOver-limits (suc (suc zero)) l = refl
 rollOver-limits (suc (suc (suc k))) l = absurd (omega arith)
 
 computed : Worked ponds × P5 × RollOver × Document003.Misses × Broken
-unfolding given Up Clock.after Clock.distance over sum largest smallest some all lowest first listed set has with takes users ceiling ceilings ticksInRound independentSum B synchronizationSum countInRange settingInRange inRange fault faultAt faulty overloaded sums verdict empty passes fresh place firstInOrder lastHolder heldResources blocked runner shortestAhead fastest inherited markAt rules turn choice Report.late Report.finished Report.reportRun Report.report notPendingFits pendingFits startedFits waitFits jobFits unused positionFits positionsFit unchanged consistent Machine.release Machine.choose Machine.report lines ticksClosed stepsGiven section endsAt hasEnded Runs.step Runs.lines Runs.after calls refused Variants.lines Document003.blocking Document003.rules Document003.turn Document003.slow
+unfolding given Up Clock.after Clock.distance over sum largest smallest some all lowest first listed set has with takes users ceiling ceilings ticksInRound independentSum B synchronizationSum countInRange settingInRange inRange fault faultAt faulty overloaded sums verdict empty passes fresh place firstInOrder lastHolder heldResources blocked runner shortestAhead fastest inherited markAt rules turn choice Report.late Report.finished Report.reportRun Report.report notPendingFits pendingFits startedFits waitFits jobFits unused positionFits positionsFit unchanged consistent Machine.release Machine.choose Machine.report lines ticksClosed stepsGiven section endsAt hasEnded Bytes.recordAt Bytes.word Bytes.long Bytes.zeros Records.sized Records.isSetting Records.isTask Records.happens Records.isEvent Records.tasks Records.wellFormed Contents.task Contents.taskRecord Contents.table Contents.start Contents.report Contents.event Lines.digits Lines.decimal Lines.field Lines.runner Lines.mode Lines.text Listing.step Listing.more Listing.page Listing.listed Listing.listing Runs.after Runs.lastLine calls refused Variants.lines Document003.blocking Document003.rules Document003.turn Document003.slow
 computed = (
   (refl, (refl, (refl, (refl, (refl, (refl, (refl, (refl, (refl, (refl, (refl, (refl, (refl, (refl, (refl, (refl, tt)))))))))))))))),
   record { passed = record { verdict = refl; limits = p5-limits }; tick = refl; taken = refl; waits = refl; runs = refl; ends = refl; refusals = refl },

@@ -12,7 +12,8 @@ use Rattle.consistency.specs.Consistency.{markFits}
 use Rattle.promise.specs.History.{Line, start}
 use Rattle.promise.specs.History as History
 use Rattle.ponds.specs.Ponds.{task, table, said}
-use Rattle.ponds.specs.Runs.{Event, release, tick, carry}
+use Rattle.records.specs.declared.Event.{Event}
+use Rattle.ponds.specs.Runs.{release, tick, carry}
 use Rattle.ponds.specs.Histories.{calls, refused}
 use Rattle.ponds.specs.Variants.{Variant, byRules, lines, stateAfter}
 

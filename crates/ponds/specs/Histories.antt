@@ -8,7 +8,9 @@ use Rattle.state.specs.{declared.State.State, declared.Answer.Answer, declared.
 use Rattle.state.specs.declared.Runner.the-variants.{Job}
 use Rattle.choice.specs.Choice.{top, blocked}
 use Rattle.ponds.specs.Ponds.{task, table, p5, p5Before, p5Later}
-use Rattle.ponds.specs.Runs.{Event, release, tick, carry}
+use Rattle.records.specs.declared.Event.{Event}
+use Rattle.records.specs.declared.Event.the-variants as Event
+use Rattle.ponds.specs.Runs.{release, tick, carry}
 use Rattle.promise.specs.History as Call
 use Rattle.promise.specs.History.{Call, choose, report, answered, Line, lines, stateAfter, start, ticksClosed, stepsGiven, section, hasEnded}
 use Rattle.promise.specs.Promise.{Passed, TakenOn, stateTaken, since}
@@ -18,8 +20,8 @@ use Rattle.promise.specs.Promise.{Passed, TakenOn, stateTaken, since}
 -- the calls of some events, the latest first: a tick is a choice and a report
 unfoldable pub calls : List Event → List Call
 calls [] = []
-calls (release k ∷ later) = calls later ++ (Call.release k ∷ [])
-calls (tick said ∷ later) = calls later ++ (report said ∷ choose ∷ [])
+calls (Event.Release k ∷ later) = calls later ++ (Call.release k ∷ [])
+calls (Event.Tick said ∷ later) = calls later ++ (report said ∷ choose ∷ [])
 
 -- an answer, and the state that was asked: its tick, then the number, the runner, the mode, the speed and the ending
 abbrev pub told : State → Answer → ℕ × ℕ × Runner × Mode × ℕ × ℕ

@@ -1,5 +1,6 @@
 pub mod Ponds
 pub mod Runs
+pub mod Files
 pub mod Histories
 pub mod Variants
 pub mod Document003

@@ -7,7 +7,11 @@ use Rattle.units.specs.Folds.{listed}
 use Rattle.table.specs.declared.Task.{Task}
 use Rattle.table.specs.declared.Table.{Table}
 use Rattle.admission.specs.Admission.{ticksInRound, B, independentSum, synchronizationSum, answer, verdict}
-use Rattle.ponds.specs.Runs.{Event, release, tick, carry, listing, last, runsNext}
+use Rattle.records.specs.declared.Event.{Event}
+use Rattle.lines.specs.Lines.{ascii}
+use Rattle.listing.specs.Listing.{listing}
+use Rattle.ponds.specs.Files.{whole}
+use Rattle.ponds.specs.Runs.{release, tick, carry, last, runsNext}
 use Rattle.state.specs.declared.Report.the-variants.{Take, Give, Done}
 use Rattle.units.specs.Clock.{after, distance}
 
@@ -91,9 +95,8 @@ ponds =
     ∷ pond (last two 0 ((release 1 ∷ tick (Take 0) ∷ []) ++ (carry 4 ++ (release 0 ∷ tick (Take 0) ∷ [])))) (5 ∷ 0 ∷ 0 ∷ 1 ∷ 0 ∷ [])
     -- P10: "give at an idle tick: 14."
     ∷ pond (last two 0 (tick Give ∷ [])) (0 ∷ 14 ∷ [])
-    -- the listing of document 01, line by line
-    ∷ pond (listing two 0 (release 1 ∷ tick (Take 0) ∷ release 0 ∷ tick Give ∷ tick Done ∷ tick Done ∷ []))
-    ((0 ∷ 1 ∷ 0 ∷ []) ++ ((0 ∷ 1 ∷ 0 ∷ 1 ∷ 0 ∷ []) ++ ((1 ∷ 0 ∷ 0 ∷ []) ++ ((1 ∷ 1 ∷ 1 ∷ 2 ∷ 0 ∷ []) ++ ((2 ∷ 0 ∷ 1 ∷ 2 ∷ 1 ∷ []) ++ (3 ∷ 1 ∷ 0 ∷ 1 ∷ 1 ∷ []))))))
+    -- "Whole listing for F 2, G 20; ..", from the bytes of its record file to those of the listing
+    ∷ pond (listing whole) (ascii "table 0\n0 release 1 0\n0 run 1 i 1 0\n1 release 0 0\n1 run 1 s 2 0\n2 run 0 s 2 1\n3 run 1 i 1 1\n")
     -- P10: "A table of no tasks: 2."
     ∷ pond (said (table 5 240 0 [])) (2 ∷ 0 ∷ [])
     ∷ []

@@ -7,12 +7,15 @@ use Rattle.lines.specs.Lines.{text}
 use Rattle.lines.specs.declared.Line.the-variants as Line
 use Rattle.lines.proofs.Laws.Whole.{wrote, unwritten, writes}
 use Rattle.listing.specs.Listing.{listed, listing}
+use Rattle.listing.proofs.Laws.{listed-whole, listed-malformed, listed-well-formed}
 use borrow.Author.Needs.{needs}
 use Rattle.listing.proofs.list.Statement.{statement}
 use Rattle.listing.proofs.list.Tie as tie
 
 returns : tie.Need-returns
-returns c = unwritten 131072 _ (listing (c .before .before .before .args .file .now)) (c .if1 .taken)
+returns c =
+    let a = c .before .before .before .args in
+    listed-whole (a .out .now) (a .file .now) (unwritten 131072 (a .out .now) (listing (a .file .now)) (c .if1 .taken))
 
 well-formed-requires : tie.Need-well-formed-requires
 well-formed-requires c κs = search needs
@@ -24,11 +27,11 @@ same-length : tie.Need-same-length
 same-length c = search needs
 
 returns-2 : tie.Need-returns-2
-unfolding listing
 returns-2 c =
-    let l = c .before .before .before .before .before .before .before .before .before .args .out .now in
+    let a = c .before .before .before .before .before .before .before .before .before .args in
+    let l = a .out .now in
     let room : 131072 ≤ length l = omega (arith, c .before .before .before .before .before .before .if1 .left) in
-    rw (failed (c .before .before .before .before .before .well-formed .ensures) (c .before .before .before .before .if2 .taken))
+    listed-malformed l (a .file .now) (failed (c .before .before .before .before .before .well-formed .ensures) (c .before .before .before .before .if2 .taken))
     (writes 131072 l (text (Line.Table 1)) room (wrote 64 l (text (Line.Table 1)) (omega arith) (c .before .before .write .ensures)))
 
 write-listed-requires : tie.Need-write-listed-requires
@@ -39,11 +42,10 @@ same-length-2 : tie.Need-same-length-2
 same-length-2 c = search needs
 
 returns-3 : tie.Need-returns-3
-unfolding listing
 returns-3 c =
     let a = c .before .before .before .before .before .before .before .before .before .args in
     let room : 131072 ≤ length (a .out .now) = omega (arith, c .before .before .before .before .before .before .if1 .left) in
-    rw (passed (c .before .before .before .before .before .well-formed .ensures) (c .before .before .before .before .if2 .left))
+    listed-well-formed (a .out .now) (a .file .now) (passed (c .before .before .before .before .before .well-formed .ensures) (c .before .before .before .before .if2 .left))
     (writes 131072 (a .out .now) (listed (a .file .now)) room (c .before .before .write-listed .ensures))
 
 pub list-spec : {M : Type 1} → statement M
