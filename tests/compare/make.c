@@ -20,7 +20,7 @@
 #include <inttypes.h>
 #include <stdlib.h>
 
-enum { BYTES_ROOM = 1 << 20, DIVISORS_MOST = 256, LONG_RUN = FILE_BYTES_MOST };
+enum { BYTES_ROOM = 2 * FILE_BYTES_MOST, DIVISORS_MOST = 256, LONG_RUN = FILE_BYTES_MOST };
 
 /* ---- Chance ------------------------------------------------------------ */
 
@@ -990,7 +990,7 @@ static void damage_length(struct chance *c, struct file *f)
 {
 	static const uint32_t lengths[] = {
 		0, 1, 31, 32, 33, 63, 64, 65, 95, 65504, 65535, 65536, 65537, 65568,
-		131072, BYTES_ROOM
+		131040, BYTES_ROOM
 	};
 	size_t length;
 
