@@ -1,6 +1,6 @@
 /*
  * counts.c - reads a pack from standard input and prints how often each thing
- * of the rules occurs in it: one name and one count a line.
+ * of the rules occurs in it: one name and one count a line, as "name: count".
  *
  * It shows whether a pack of make.c reaches the places it is made for.
  */
@@ -12,8 +12,31 @@
 
 enum { NUMBERS = 17, RULES = 6 };
 
+/* Why a file is malformed. */
+enum {
+	EMPTY, NOT_WHOLE, TOO_LONG, NO_SETTING_FIRST, OTHER_FIRST_BYTE,
+	NOT_ZERO, OTHER_KIND, OTHER_REPORT, RESOURCE_WITHOUT_TAKE, OUT_OF_ORDER,
+	REASONS, NO_REASON = REASONS
+};
+
+static const char *const reason_names[REASONS] = {
+	"empty", "not whole records", "too long", "first record no setting",
+	"a first byte other than 1 to 3", "a byte that should be zero",
+	"kind of event other than 1 or 2", "report above 3",
+	"resource without take", "order"
+};
+
+/* Task counts of number 2; a count kept in one byte is wrong in the last. */
+enum { NO_TASKS, ONE_BYTE_OF_TASKS, MORE_TASKS, CROWDS };
+
+static const char *const crowd_names[CROWDS] = {
+	"none", "17 to 255", "256 and more"
+};
+
 struct counts {
 	uint64_t verdict[NUMBERS];
+	uint64_t reason[REASONS];     /* malformed files */
+	uint64_t crowd[CROWDS];       /* tables of number 2 */
 	uint64_t release[NUMBERS];
 	uint64_t tick[NUMBERS];       /* 0 closed, else refused */
 	uint64_t rule[RULES];         /* 0 idle, else 1 to 5 */
@@ -145,26 +168,99 @@ static void count_event(struct counts *n, const struct table *t,
 		count_closed(n, t, &before, answer, record[2]);
 }
 
-static void count_file(struct counts *n, const uint8_t *bytes, size_t length)
+static bool unnamed_zero(const uint8_t *record)
+{
+	if (record[0] == SETTING)
+		return zero(record, 2, 4) && zero(record, 12, RECORD_BYTES);
+	if (record[0] == TASK)
+		return zero(record, 3, 4) && zero(record, 10, 16);
+	return zero(record, 4, RECORD_BYTES);
+}
+
+/* Of one record, without its place in the file. */
+static uint32_t reason_of_record(const uint8_t *record)
+{
+	bool tick = record[1] == EVENT_TICK;
+
+	if (record[0] < SETTING || record[0] > EVENT)
+		return OTHER_FIRST_BYTE;
+	if (!unnamed_zero(record))
+		return NOT_ZERO;
+	if (record[0] != EVENT)
+		return NO_REASON;
+	if (!tick && record[1] != EVENT_RELEASE)
+		return OTHER_KIND;
+	if (tick && record[2] > GIVE)
+		return OTHER_REPORT;
+	if (record[3] != 0 && !(tick && record[2] == TAKE))
+		return RESOURCE_WITHOUT_TAKE;
+	return NO_REASON;
+}
+
+/* The first that fits, at the first record that any fits; seen apart from
+ * well_formed. */
+static uint32_t reason_of_file(const uint8_t *bytes, size_t length)
+{
+	if (length == 0)
+		return EMPTY;
+	if (length % RECORD_BYTES != 0)
+		return NOT_WHOLE;
+	if (length > FILE_BYTES_MOST)
+		return TOO_LONG;
+	if (bytes[0] != SETTING)
+		return NO_SETTING_FIRST;
+	for (size_t at = 0; at < length; at += RECORD_BYTES) {
+		uint32_t reason = reason_of_record(bytes + at);
+
+		if (reason != NO_REASON)
+			return reason;
+		if (at > 0 && (bytes[at] == SETTING
+			|| bytes[at] < bytes[at - RECORD_BYTES]))
+			return OUT_OF_ORDER;
+	}
+	return NO_REASON;
+}
+
+static uint32_t crowd_of(uint32_t tasks)
+{
+	if (tasks == 0)
+		return NO_TASKS;
+	return tasks < 256 ? ONE_BYTE_OF_TASKS : MORE_TASKS;
+}
+
+/* Counts a file that is not malformed. */
+static void count_table(struct counts *n, const uint8_t *bytes, size_t length)
 {
 	struct table t;
 	struct state s;
 	ticks first_tick;
-	size_t at;
-	uint32_t number;
+	size_t at = read_table(bytes, length, &t, &first_tick);
+	uint32_t number = start(&t, first_tick, &s).number;
 
-	if (!well_formed(bytes, length)) {
-		n->verdict[MALFORMED]++;
-		return;
-	}
-	at = read_table(bytes, length, &t, &first_tick);
-	number = start(&t, first_tick, &s).number;
 	n->verdict[number]++;
+	if (number == COUNT_NOT_IN_RANGE)
+		n->crowd[crowd_of(t.count)]++;
 	if (number != SUCCESS)
 		return;
 	n->full_files += length == FILE_BYTES_MOST;
 	for (; at < length; at += RECORD_BYTES)
 		count_event(n, &t, &s, bytes + at);
+}
+
+/* False if it is malformed for no reason of ours, or the other way round. */
+static bool count_file(struct counts *n, const uint8_t *bytes, size_t length)
+{
+	uint32_t reason = reason_of_file(bytes, length);
+
+	if (well_formed(bytes, length) != (reason == NO_REASON))
+		return false;
+	if (reason == NO_REASON) {
+		count_table(n, bytes, length);
+		return true;
+	}
+	n->verdict[MALFORMED]++;
+	n->reason[reason]++;
+	return true;
 }
 
 static void print_count(const char *name, uint64_t count)
@@ -178,9 +274,19 @@ static void print_row(const char *name, const uint64_t *row, uint32_t length)
 		printf("%s %" PRIu32 ": %" PRIu64 "\n", name, i, row[i]);
 }
 
+/* The same with a name for each place of the row. */
+static void print_named(const char *name, const char *const *names,
+	const uint64_t *row, uint32_t length)
+{
+	for (uint32_t i = 0; i < length; i++)
+		printf("%s, %s: %" PRIu64 "\n", name, names[i], row[i]);
+}
+
 static void print_counts(const struct counts *n)
 {
 	print_row("table", n->verdict, NUMBERS);
+	print_named("malformed", reason_names, n->reason, REASONS);
+	print_named("tasks of number 2", crowd_names, n->crowd, CROWDS);
 	print_row("release", n->release, NUMBERS);
 	print_row("tick", n->tick, NUMBERS);
 	print_row("rule", n->rule, RULES);
@@ -211,7 +317,8 @@ int main(void)
 
 		if (!read_packed(stdin, bytes, length))
 			return trouble("pack", "ends in the middle");
-		count_file(&counts, bytes, length);
+		if (!count_file(&counts, bytes, length))
+			return trouble("pack", "a file is malformed for no known reason");
 	}
 	if (got > 0 || ferror(stdin))
 		return trouble("pack", "ends in the middle");

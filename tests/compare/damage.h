@@ -9,15 +9,17 @@ static uint8_t *some_record(struct chance *c, struct file *f)
 	return f->bytes + (size_t)k * RECORD_BYTES;
 }
 
+/* Mostly one of the listed lengths: of the others, few are at a bound. The last
+ * two make a pack long, so they are rare. */
 static void damage_length(struct chance *c, struct file *f)
 {
 	static const uint32_t lengths[] = {
-		0, 1, 31, 32, 33, 63, 64, 65, 95, 65504, 65535, 65536, 65537, 65568,
-		131040, BYTES_ROOM
+		0, 0, 0, 1, 31, 32, 33, 63, 64, 65, 95, 65504, 65535, 65536, 65537,
+		65568, 131040, BYTES_ROOM
 	};
 	size_t length;
 
-	switch (below(c, 4)) {
+	switch (below(c, 6)) {
 	case 0:
 		length = between(c, 1, 95);
 		break;
@@ -28,7 +30,7 @@ static void damage_length(struct chance *c, struct file *f)
 		length = f->length - between(c, 1, RECORD_BYTES - 1);
 		break;
 	default:
-		length = lengths[below(c, one_in(c, 20) ? 16 : 14)];
+		length = lengths[below(c, one_in(c, 20) ? 18 : 16)];
 	}
 	/* What is added are ticks, carried on, in whole or in part. */
 	while (f->length < length && f->length <= BYTES_ROOM - RECORD_BYTES)
@@ -138,26 +140,27 @@ static void damage_event(struct chance *c, struct file *f)
 
 static void damage(struct chance *c, struct file *f)
 {
-	switch (below(c, 10)) {
+	switch (below(c, 12)) {
 	case 0:
 	case 1:
+	case 2:
 		damage_length(c, f);
 		break;
-	case 2:
-		damage_anywhere(c, f);
-		break;
 	case 3:
-	case 8:
-	case 9:
+	case 4:
+	case 5:
 		damage_zero(c, f);
 		break;
-	case 4:
+	case 6:
+		damage_anywhere(c, f);
+		break;
+	case 7:
 		damage_first_byte(c, f);
 		break;
-	case 5:
+	case 8:
 		damage_order(c, f);
 		break;
-	case 6:
+	case 9:
 		damage_setting(c, f);
 		break;
 	default:

@@ -6,9 +6,9 @@
  * FIRST and SECOND hold COUNT listings each, an empty line after each listing;
  * SEED and COUNT are those the pack was made with. Prints nothing and exits 0
  * if they are equal and whole. Else exits 1 and prints the number of the first
- * file whose listings differ, the command that makes that file alone, and the
- * first line that differs, "<" from FIRST and ">" from SECOND. Exit 2: one of
- * them could not be read.
+ * file whose listings differ, the command that makes that file alone (given
+ * at the repository's top), and the first line that differs, "<" from FIRST
+ * and ">" from SECOND. Exit 2: one of them could not be read.
  */
 
 #include <stdbool.h>
@@ -75,7 +75,8 @@ static void print_place(struct place place, const char *seed,
 		(unsigned long long)place.file, seed,
 		(unsigned long long)place.line);
 	if (place.file < strtoull(count, NULL, 10))
-		printf("make %s %s --only %llu\n", seed, count,
+		printf("to have it: tests/compare/run %s %s --only %llu"
+			" > file.records\n", seed, count,
 			(unsigned long long)place.file);
 	else
 		printf("past the last of %s files\n", count);

@@ -14,9 +14,10 @@ static void change_setting(struct chance *c, struct draft *d)
 	static const uint32_t rounds[] = {
 		0, 1, 999999, 1000000, 1000001, 2000000, UINT32_MAX
 	};
-	static const uint32_t extras[] = {0, 1, 1, 24, 2000};
+	/* 241 more make 257, which is a good count of 1 in one byte alone. */
+	static const uint32_t extras[] = {0, 1, 24, 241, 241, 2000};
 
-	switch (below(c, 6)) {
+	switch (below(c, 7)) {
 	case 0:
 	case 1:
 		d->t.F = speeds[below(c, 6)];
@@ -30,7 +31,7 @@ static void change_setting(struct chance *c, struct draft *d)
 		break;
 	default:
 		if (d->t.count > 0)
-			crowd(d, extras[below(c, 5)]);
+			crowd(d, extras[below(c, 6)]);
 	}
 }
 

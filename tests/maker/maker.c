@@ -18,13 +18,16 @@
  *
  * Only what hinders the making of a record is refused here. Ranges of the
  * table and the order of the records are left to the listing program, so that
- * a keeper can make a bad file and see which number it gets.
+ * a keeper can make a bad file and see which number it gets. But number 1 says
+ * nothing of the place: so records out of order, or too many, are made and
+ * warned of.
  *
- * Exit 0: the records are on standard output. Exit 1: a message is on standard
- * error, and nothing was written to standard output unless the writing itself
- * failed.
+ * Exit 0: the records are on standard output, and warnings, if any, on standard
+ * error. Exit 1: a message is on standard error, and nothing was written to
+ * standard output unless the writing itself failed.
  */
 
+#include <errno.h>
 #include <inttypes.h>
 #include <stdarg.h>
 #include <stdbool.h>
@@ -36,6 +39,7 @@
 
 enum {
 	RECORD_BYTES = 32,
+	LISTED_MOST = 2048,    /* records: 65,536 bytes */
 	RECORDS_MOST = 100000, /* well past what a listing takes: no rule, a bound */
 	RESOURCES = 8,
 	LIMITS_START = 16,     /* the byte at which a task's limits start */
@@ -51,6 +55,9 @@ enum { CARRY_ON = 0, DONE = 1, TAKE = 2, GIVE = 3 };
 
 /* A carriage return counts as a space, for texts written on other systems. */
 static const char between_words[] = " \t\r";
+
+/* What some editors put before a text's first line, unseen by the keeper */
+static const char byte_order_mark[] = "\xEF\xBB\xBF";
 
 struct text {
 	FILE *file;
@@ -90,6 +97,7 @@ static const struct form task_form = {
 /* Kept whole until the text has been read, so that a wrong line leaves
  * standard output empty. All bytes start as zero, as unnamed ones must be. */
 static uint8_t records[RECORDS_MOST][RECORD_BYTES];
+static unsigned long line_of_record[RECORDS_MOST];
 static size_t record_count;
 
 /* Says what is wrong with the line being read, and ends. */
@@ -112,6 +120,21 @@ _Noreturn static void failed(const char *name, const char *what)
 	exit(1);
 }
 
+/* The same where the system has just said why. */
+_Noreturn static void failed_because(const char *name, const char *what)
+{
+	fprintf(stderr, "%s: %s: %s\n", name, what, strerror(errno));
+	exit(1);
+}
+
+static void skip_byte_order_mark(struct text *text)
+{
+	size_t length = strlen(byte_order_mark);
+
+	if (strncmp(text->rest, byte_order_mark, length) == 0)
+		text->rest += length;
+}
+
 /* Reads the next line without its comment; false at the end of the text. */
 static bool read_line(struct text *text)
 {
@@ -130,10 +153,12 @@ static bool read_line(struct text *text)
 		character = getc(text->file);
 	}
 	if (ferror(text->file))
-		failed(text->name, "cannot be read");
+		failed_because(text->name, "cannot be read");
 	text->line[length] = '\0';
 	text->line[strcspn(text->line, "#")] = '\0';
 	text->rest = text->line;
+	if (text->line_number == 1)
+		skip_byte_order_mark(text);
 	return length > 0 || character == '\n';
 }
 
@@ -188,6 +213,7 @@ static uint8_t *new_record(const struct text *text, uint8_t first_byte)
 
 	if (record_count == RECORDS_MOST)
 		wrong(text, "this makes more than %d records", RECORDS_MOST);
+	line_of_record[record_count] = text->line_number;
 	record = records[record_count++];
 	record[0] = first_byte;
 	return record;
@@ -315,6 +341,41 @@ static void read_thing(struct text *text, const char *word)
 		            "ticks, not with '%s'", word);
 }
 
+static void warn(const struct text *text, unsigned long line, const char *what)
+{
+	fprintf(stderr, "%s:%lu: %s: the listing will be 'table 1'\n", text->name,
+	        line, what);
+}
+
+/* Warns of what makes the file malformed as a whole, each kind at its first
+ * place. Done after the text has been read, because a text that is refused has
+ * no listing to warn of. */
+static void warn_of_order(const struct text *text)
+{
+	size_t settings = 0;
+	size_t events = 0;
+	size_t late_tasks = 0;
+
+	/* A text of no lines has no line to name: its first is as good as any. */
+	if (record_count == 0)
+		warn(text, text->line_number > 0 ? text->line_number : 1, "no setting");
+	for (size_t index = 0; index < record_count; index++) {
+		uint8_t first_byte = records[index][0];
+		unsigned long line = line_of_record[index];
+
+		if (index == 0 && first_byte != SETTING)
+			warn(text, line, "no setting before this");
+		if (first_byte == SETTING && settings++ == 1)
+			warn(text, line, "a second setting");
+		if (first_byte == TASK && events > 0 && late_tasks++ == 0)
+			warn(text, line, "a task after an event");
+		if (first_byte == EVENT)
+			events++;
+		if (index == LISTED_MOST)
+			warn(text, line, "more than 2,048 records");
+	}
+}
+
 int main(int argument_count, char **arguments)
 {
 	struct text text = { .file = stdin, .name = "standard input" };
@@ -325,7 +386,7 @@ int main(int argument_count, char **arguments)
 		text.name = arguments[1];
 		text.file = fopen(text.name, "r");
 		if (text.file == NULL)
-			failed(text.name, "cannot be opened");
+			failed_because(text.name, "cannot be opened");
 	}
 	while (read_line(&text)) {
 		const char *word = next_word(&text);
@@ -335,8 +396,9 @@ int main(int argument_count, char **arguments)
 	}
 	if (text.file != stdin)
 		fclose(text.file);
+	warn_of_order(&text);
 	if (fwrite(records, RECORD_BYTES, record_count, stdout) != record_count ||
 	    fflush(stdout) != 0)
-		failed("standard output", "cannot be written");
+		failed_because("standard output", "cannot be written");
 	return 0;
 }

@@ -1,4 +1,4 @@
--- The paper's listing and the longest numbers, computed. Assumes nothing.
+-- Lines, computed. Assumes nothing.
 use Prim.Native.Nat.{ℕ}
 use mathlib.Core.Path.{_≡_, refl}
 use mathlib.Core.List.{List, [], _∷_, _++_}
@@ -13,23 +13,20 @@ abbrev texts : List Line → List ℕ
 texts [] = []
 texts (line ∷ rest) = text line ++ texts rest
 
--- "Whole listing for F 2, G 20"
-pub listing :
-    texts (
-    Table 0
-    ∷ Release (tick 0) 1 0
-    ∷ Run (tick 0) (Job 1) Independent 1 0
-    ∷ Release (tick 1) 0 0
-    ∷ Run (tick 1) (Job 1) Synchronization 2 0
-    ∷ Run (tick 2) (Job 0) Synchronization 2 1
-    ∷ Run (tick 3) (Job 1) Independent 1 1
-    ∷ []
-    ) ≡ ascii "table 0\n0 release 1 0\n0 run 1 i 1 0\n1 release 0 0\n1 run 1 s 2 0\n2 run 0 s 2 1\n3 run 1 i 1 1\n"
-unfolding digits decimal field runner mode text
-listing = refl
+-- numbers at the edges of their lengths
+pub numbers : texts (Table 0 ∷ Table 9 ∷ Table 10 ∷ Table 99 ∷ Table 100 ∷ Table 255 ∷ []) ≡ ascii "table 0\ntable 9\ntable 10\ntable 99\ntable 100\ntable 255\n"
+unfolding digits decimal field text
+numbers = refl
 
+-- the longest line of each kind that has a tick, and the idle one
 pub longest :
-    texts (Run (tick 4294967295) Nobody Independent 0 0 ∷ Refused (tick 4294967295) 16 ∷ [])
-    ≡ ascii "4294967295 run - i 0 0\n4294967295 refused 16\n"
+    texts (
+    Release (tick 4294967295) 255 12
+    ∷ Run (tick 4294967295) (Job 15) Synchronization 64 2
+    ∷ Run (tick 1000000000) Nobody Independent 0 0
+    ∷ Refused (tick 4294967295) 16
+    ∷ []
+    )
+    ≡ ascii "4294967295 release 255 12\n4294967295 run 15 s 64 2\n1000000000 run - i 0 0\n4294967295 refused 16\n"
 unfolding digits decimal field runner mode text
 longest = refl

@@ -16,12 +16,12 @@ abbrev pub ascii : String → List ℕ
 ascii empty = []
 ascii (c then s) = code c ∷ ascii s
 
--- "numbers decimal": the digits of n, as many as `most`
+-- "numbers decimal": the digits of n, and of a longer number its last `most`
 unfoldable pub digits : ℕ → ℕ → List ℕ
 digits zero n = []
 digits (suc most) n = cond (ltb n 10) [] (digits most (n / 10)) ++ ((code "0" + n % 10) ∷ [])
 
--- a number of 32 bits has ten at the most
+-- no number of a line is longer than ten digits
 unfoldable pub decimal : ℕ → List ℕ
 decimal n = digits 10 n
 
@@ -59,8 +59,8 @@ abbrev pub laid : List ℕ → List ℕ → List ℕ
 laid lent text = text ++ drop (length text) lent
 
 -- the same, and how long the text is; where less than its room is lent, nothing is written
-abbrev pub holds : ℕ → List ℕ → List ℕ → List ℕ
-holds room lent text = cond (leb room (length lent)) (laid lent text) lent
+abbrev pub leaves : ℕ → List ℕ → List ℕ → List ℕ
+leaves room lent text = cond (leb room (length lent)) (laid lent text) lent
 
-abbrev pub taken : ℕ → List ℕ → List ℕ → ℕ
-taken room lent text = cond (leb room (length lent)) (length text) 0
+abbrev pub answers : ℕ → List ℕ → List ℕ → ℕ
+answers room lent text = cond (leb room (length lent)) (length text) 0

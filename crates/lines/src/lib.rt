@@ -1,6 +1,6 @@
 // The lines of the listing, written into a lent part of the output.
 ghost use mathlib.Core.Path.{_≡_};
-ghost use Rattle.lines.specs.Lines.{text, holds, taken};
+ghost use Rattle.lines.specs.Lines.{text, leaves, answers};
 use state::Mode;
 use state::Runner;
 use units::Tick;
@@ -34,7 +34,7 @@ impl Line {
 
     // Writes the line at the start of the part that it is lent, and answers how long it is.
     pub fn write(self, out: &mut [u8]) -> usize
-        ensures { λ r. ⌜ (now (out .exit) ≡ holds 64 (now (out .entry)) (text self)) × (r ≡ taken 64 (now (out .entry)) (text self)) ⌝ }
+        ensures { λ r. ⌜ (now (out .exit) ≡ leaves 64 (now (out .entry)) (text self)) × (r ≡ answers 64 (now (out .entry)) (text self)) ⌝ }
     {
         if out.len() < Line::ROOM {
             return 0;

@@ -36,10 +36,10 @@ fn digits(out: &mut [u8], at: usize, n: u32, most: usize) -> usize
         return at;
     }
     if n < 10 {
-        return byte(out, at, 48 + (n % 10) as u8);
+        return byte(out, at, b'0' + (n % 10) as u8);
     }
     let end = digits(out, at, n / 10, most - 1);
-    byte(out, end, 48 + (n % 10) as u8)
+    byte(out, end, b'0' + (n % 10) as u8)
 }
 
 pub(crate) fn number(out: &mut [u8], at: usize, n: u32) -> usize
@@ -55,7 +55,7 @@ pub(crate) fn field(out: &mut [u8], at: usize, n: u8) -> usize
     ensures { λ r. ⌜ Put (now (out .entry)) at (field (decimal n)) r (now (out .exit)) ⌝ }
     ensures { λ r. ⌜ r ≤ at + 11 ⌝ }
 {
-    let end = byte(out, at, 32);
+    let end = byte(out, at, b' ');
     number(out, end, n as u32)
 }
 

@@ -15,7 +15,7 @@ pub(crate) fn table(out: &mut [u8], number: u8) -> usize
 {
     let end = pieces::text(out, 0, b"table");
     let end = pieces::field(out, end, number);
-    pieces::byte(out, end, 10)
+    pieces::byte(out, end, b'\n')
 }
 
 pub(crate) fn release(out: &mut [u8], tick: Tick, position: u8, number: u8) -> usize
@@ -26,27 +26,27 @@ pub(crate) fn release(out: &mut [u8], tick: Tick, position: u8, number: u8) -> u
     let end = pieces::text(out, end, b" release");
     let end = pieces::field(out, end, position);
     let end = pieces::field(out, end, number);
-    pieces::byte(out, end, 10)
+    pieces::byte(out, end, b'\n')
 }
 
 pub(crate) fn run(
     out: &mut [u8],
     tick: Tick,
-    who: Runner,
-    how: Mode,
+    runner: Runner,
+    mode: Mode,
     speed: u8,
     ending: u8,
 ) -> usize
     requires { ⌜ 64 ≤ length (now out) ⌝ }
-    ensures { λ r. ⌜ Put (now (out .entry)) 0 (text (Run tick who how speed ending)) r (now (out .exit)) ⌝ }
+    ensures { λ r. ⌜ Put (now (out .entry)) 0 (text (Run tick runner mode speed ending)) r (now (out .exit)) ⌝ }
 {
     let end = pieces::number(out, 0, tick.0);
     let end = pieces::text(out, end, b" run");
-    let end = pieces::runner(out, end, who);
-    let end = pieces::mode(out, end, how);
+    let end = pieces::runner(out, end, runner);
+    let end = pieces::mode(out, end, mode);
     let end = pieces::field(out, end, speed);
     let end = pieces::field(out, end, ending);
-    pieces::byte(out, end, 10)
+    pieces::byte(out, end, b'\n')
 }
 
 pub(crate) fn refused(out: &mut [u8], tick: Tick, number: u8) -> usize
@@ -56,5 +56,5 @@ pub(crate) fn refused(out: &mut [u8], tick: Tick, number: u8) -> usize
     let end = pieces::number(out, 0, tick.0);
     let end = pieces::text(out, end, b" refused");
     let end = pieces::field(out, end, number);
-    pieces::byte(out, end, 10)
+    pieces::byte(out, end, b'\n')
 }

@@ -1,10 +1,12 @@
 // Lists the record file that its argument names, or standard input without one.
+use admission::Verdict;
 use libc::STDERR_FILENO;
 use libc::STDIN_FILENO;
 use libc::STDOUT_FILENO;
 
-// Reads until the buffer is full or the input ends, and answers how many bytes came, or -1 where a read failed. A read that
-// does not end the input moves a byte, so that a turn for each byte is enough.
+// Reads until the buffer is full or the input ends, and answers how many bytes came, or -1 where a read failed, which
+// io::read_full does not tell from the end. A read that does not end the input moves a byte, so that a turn for each byte is
+// enough.
 fn read(fd: i32, buffer: &mut [u8]) -> isize {
     let mut end = 0;
     for _turn in 0..buffer.len() {
@@ -21,6 +23,24 @@ fn read(fd: i32, buffer: &mut [u8]) -> isize {
     end as isize
 }
 
+// Names the task that a table's number is about, on standard error, since the listing has the number alone.
+fn name_position(file: &[u8]) {
+    if !records::well_formed(file) {
+        return;
+    }
+    let verdict = Verdict::of(records::table(file));
+    let number = verdict.number();
+    if number < 4 {
+        return;
+    }
+    if number == 7 {
+        return;
+    }
+    io::write_all(STDERR_FILENO, b"list: the number is that of position ");
+    io::print_decimal(STDERR_FILENO, verdict.position() as u64);
+    io::write_all(STDERR_FILENO, b", counted from 0\n");
+}
+
 // Prints the listing of what stands in an open file, or says why it can't be read. One byte more than a file may have is
 // read, so that a file that is too long is seen to be.
 fn list(fd: i32, name: &[u8]) {
@@ -31,11 +51,13 @@ fn list(fd: i32, name: &[u8]) {
         return;
     }
     let length = io::count(got, &file);
-    let mut out = [0u8; 131072];
+    let mut out = [0u8; listing::ROOM];
     let end = listing::list(&file[..length], &mut out);
     if !io::write_all(STDOUT_FILENO, &out[..end]) {
         os::fail(b"standard output");
+        return;
     }
+    name_position(&file[..length]);
 }
 
 fn list_named() {

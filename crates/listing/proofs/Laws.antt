@@ -15,10 +15,10 @@ use Rattle.table.specs.declared.Table.{Table}
 use Rattle.admission.specs.Admission.{answer, verdict}
 use Rattle.units.specs.declared.Tick.{Tick}
 use Rattle.state.specs.{declared.State.State, declared.Start.Start, State.fresh}
-use Rattle.records.specs.{declared.Event.Event, Records.firstEvent, Records.events, Records.wellFormed, Contents.table, Contents.start, Contents.event}
+use Rattle.records.specs.{declared.Event.Event, Records.firstEvent, Records.eventCount, Records.wellFormed, Contents.table, Contents.start, Contents.event}
 use Rattle.lines.specs.declared.Line.the-variants as Line
 use Rattle.lines.specs.Lines.{text}
-use Rattle.lines.proofs.Laws.{Lengths.text-le, Whole.Written, Whole.wrote, Following.Filled, Following.filled-first}
+use Rattle.lines.proofs.Laws.{Lengths.text-le, Whole.Written, Whole.written-laid, Following.Begins, Following.begins-first}
 use Rattle.records.proofs.Laws.{lines-within}
 use Rattle.listing.specs.declared.Step.{Step}
 use Rattle.listing.specs.Listing.{step, more, page, listed, listing}
@@ -42,9 +42,13 @@ module _ (file : List ℕ) (t : Table) (s : State) where
       let same : x ≡ step t (page file t s k .state) (event file (firstEvent file + k)) = is ∙ rw (h, said, f) refl in
       (rw (next, same) refl, rw (next, same) refl)
 
--- the table's line, written
-pub first-line : {m : List ℕ} {r : ℕ} (l : List ℕ) (n : ℕ) → 64 ≤ length l → Written 64 l (text (Line.Table n)) r m → Filled l (text (Line.Table n)) m r
-first-line l n h w = filled-first l (text (Line.Table n)) (omega (arith, text-le (Line.Table n))) (wrote 64 l (text (Line.Table n)) h w)
+-- the table's line, written, and the room for the events behind it
+pub first-line : {m : List ℕ} {r : ℕ} (l file : List ℕ) (n : ℕ) → 64 + 64 * eventCount file ≤ length l → Written 64 l (text (Line.Table n)) r m
+    → (Begins l (text (Line.Table n)) m r) × (r + 64 * eventCount file ≤ length m)
+first-line l file n h w =
+    let le = text-le (Line.Table n) in
+    let f = begins-first l (text (Line.Table n)) (omega arith) (written-laid 64 l (text (Line.Table n)) (omega arith) w) in
+    (f, omega (arith, f .1, f .2))
 
 -- a table that does not pass, and one that does
 module _ (file : List ℕ) {t : Table} {now : Tick} {s : Start} {n : ℕ}
@@ -57,11 +61,11 @@ module _ (file : List ℕ) {t : Table} {now : Tick} {s : Start} {n : ℕ}
   unfolding listed
   listed-stops h = rw (← number-is, ne-eqb _ _ h) (append-nil _)
 
-  pub listed-goes : n ≡ 0 → listed file ≡ text (Line.Table n) ++ page file t (s .state) (events file) .text
+  pub listed-goes : n ≡ 0 → listed file ≡ text (Line.Table n) ++ page file t (s .state) (eventCount file) .text
   unfolding listed
   listed-goes h = rw (← number-is, eq-eqb _ _ h, starts, begins, reads) refl
 
-listed-le : (file : List ℕ) → length (listed file) ≤ 64 + 64 * events file
+listed-le : (file : List ℕ) → length (listed file) ≤ 64 + 64 * eventCount file
 unfolding listed
 listed-le file = go (eqb number 0)
   where
@@ -74,8 +78,8 @@ listed-le file = go (eqb number 0)
     s : State
     s = fresh t (start file) .state
 
-    go : (b : Bool) → length (text (Line.Table number) ++ cond b (page file t s (events file) .text) []) ≤ 64 + 64 * events file
-    go true = omega (arith, length-append (text (Line.Table number)) (page file t s (events file) .text), text-le (Line.Table number), page-le file t s (events file))
+    go : (b : Bool) → length (text (Line.Table number) ++ cond b (page file t s (eventCount file) .text) []) ≤ 64 + 64 * eventCount file
+    go true = omega (arith, length-append (text (Line.Table number)) (page file t s (eventCount file) .text), text-le (Line.Table number), page-le file t s (eventCount file))
     go false = omega (arith, length-append (text (Line.Table number)) [], text-le (Line.Table number))
 
 pub listing-le : (file : List ℕ) → length (listing file) ≤ 131072
@@ -99,7 +103,7 @@ module _ {m : List ℕ} {r : ℕ} (l file : List ℕ) where
 
       counts : Dec (131072 ≤ length l) → (r ≤ length m) × (r ≡ length (take r m))
       counts (yes h) =
-          let f = filled-first l (listing file) (omega (arith, listing-le file)) (wrote 131072 l (listing file) h w) in
+          let f = begins-first l (listing file) (omega (arith, listing-le file)) (written-laid 131072 l (listing file) h w) in
           within (omega (arith, f .1, f .2, listing-le file))
       counts (no h) =
           let e : r ≡ 0 = w .1 ∙ simp (lt-leb 131072 (length l) (omega arith)) in within (omega arith)

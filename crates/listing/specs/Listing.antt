@@ -8,7 +8,7 @@ use Rattle.table.specs.declared.Table.{Table}
 use Rattle.admission.specs.Admission.{answer, verdict}
 use Rattle.state.specs.{declared.State.State, declared.Answer.Answer, State.fresh}
 use Rattle.machine.specs.Machine as Machine
-use Rattle.records.specs.{declared.Event.Event, Records.firstEvent, Records.events, Records.wellFormed, Contents.table, Contents.start, Contents.event}
+use Rattle.records.specs.{declared.Event.Event, Records.firstEvent, Records.eventCount, Records.wellFormed, Contents.table, Contents.start, Contents.event}
 use Rattle.records.specs.declared.Event.the-variants as Event
 use Rattle.lines.specs.declared.Line.the-variants as Line
 use Rattle.lines.specs.Lines.{text}
@@ -48,7 +48,7 @@ unfoldable pub listed : List ℕ → List ℕ
 listed file =
     let t = table file in
     let number = answer (verdict t) .0 in
-    text (Line.Table number) ++ cond (eqb number 0) (page file t (fresh t (start file) .state) (events file) .text) []
+    text (Line.Table number) ++ cond (eqb number 0) (page file t (fresh t (start file) .state) (eventCount file) .text) []
 
 -- "or 1 for a malformed file"
 unfoldable pub listing : List ℕ → List ℕ

@@ -23,7 +23,7 @@ fn next_length() -> usize {
 }
 
 fn list(file: &[u8]) -> bool {
-    let mut out = [0u8; 131072];
+    let mut out = [0u8; listing::ROOM];
     let end = listing::list(file, &mut out);
     if !io::write_all(STDOUT_FILENO, &out[..end]) {
         return false;

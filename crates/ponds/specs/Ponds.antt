@@ -44,6 +44,10 @@ p5 = table 6 280 4 (task 10 6 1 6 0 0 ∷ task 10 18 6 6 0 0 ∷ task 14 6 6 6 6
 abbrev pub two : Table
 two = table 2 20 2 (task 10 2 1 2 2 0 ∷ task 20 8 1 2 4 0 ∷ [])
 
+-- for P6: released together, position 0 has the nearer deadline
+abbrev pub p6 : Table
+p6 = table 1 10 2 (task 5 1 1 1 0 0 ∷ task 10 1 1 1 0 0 ∷ [])
+
 -- for P7: the ceiling of resource 0 is 10, by position 1; position 0 has a D of 9, and position 2 one of 10
 abbrev pub p7 : Table
 p7 = table 4 90 4 (task 9 1 1 4 0 0 ∷ task 10 1 1 4 1 0 ∷ task 10 1 1 4 0 0 ∷ task 90 8 1 4 8 0 ∷ [])
@@ -84,6 +88,7 @@ ponds =
     ∷ pond (runsNext p5 0 (p5Before ++ ((release 2 ∷ []) ++ p5Later 5))) (16 ∷ 2 ∷ [])
     -- P6: "tick 4,294,967,290, D 10: deadline 4, behind a deadline of 4,294,967,295."
     ∷ pond (after 4294967290 10 ∷ distance 4294967290 4 ∷ distance 4294967290 4294967295 ∷ []) (4 ∷ 10 ∷ 5 ∷ [])
+    ∷ pond (runsNext p6 4294967290 (release 1 ∷ release 0 ∷ [])) (4294967290 ∷ 0 ∷ [])
     -- P7: "top whose D equals the ceiling is blocked; with D one less it is not."
     ∷ pond (runsNext p7 0 (release 3 ∷ tick (Take 0) ∷ release 2 ∷ [])) (1 ∷ 3 ∷ [])
     ∷ pond (runsNext p7 0 (release 3 ∷ tick (Take 0) ∷ release 0 ∷ [])) (1 ∷ 0 ∷ [])
@@ -95,10 +100,10 @@ ponds =
     ∷ pond (last two 0 ((release 1 ∷ tick (Take 0) ∷ []) ++ (carry 4 ++ (release 0 ∷ tick (Take 0) ∷ [])))) (5 ∷ 0 ∷ 0 ∷ 1 ∷ 0 ∷ [])
     -- P10: "give at an idle tick: 14."
     ∷ pond (last two 0 (tick Give ∷ [])) (0 ∷ 14 ∷ [])
-    -- "Whole listing for F 2, G 20; ..", from the bytes of its record file to those of the listing
-    ∷ pond (listing whole) (ascii "table 0\n0 release 1 0\n0 run 1 i 1 0\n1 release 0 0\n1 run 1 s 2 0\n2 run 0 s 2 1\n3 run 1 i 1 1\n")
     -- P10: "A table of no tasks: 2."
     ∷ pond (said (table 5 240 0 [])) (2 ∷ 0 ∷ [])
+    -- "Whole listing for F 2, G 20", from the bytes of its record file to those of the listing
+    ∷ pond (listing whole) (ascii "table 0\n0 release 1 0\n0 run 1 i 1 0\n1 release 0 0\n1 run 1 s 2 0\n2 run 0 s 2 1\n3 run 1 i 1 1\n")
     ∷ []
 
 -- every pond of a list comes out as the paper says

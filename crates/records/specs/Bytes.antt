@@ -7,12 +7,12 @@ use lib.Dec.{ltb, eqb}
 use Rattle.units.specs.Folds.{all}
 
 -- how many whole records there are
-abbrev pub records : List ℕ → ℕ
-records file = length file / 32
+abbrev pub recordCount : List ℕ → ℕ
+recordCount file = length file / 32
 
 -- the record at k; no bytes where there is none
 unfoldable pub recordAt : List ℕ → ℕ → List ℕ
-recordAt file k = cond (ltb k (records file)) (take 32 (drop (k * 32) file)) []
+recordAt file k = cond (ltb k (recordCount file)) (take 32 (drop (k * 32) file)) []
 
 -- a byte of a record, and the numbers of two bytes and of four from there on; 0 past its end
 abbrev pub byte : List ℕ → ℕ → ℕ

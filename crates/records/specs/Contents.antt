@@ -10,7 +10,7 @@ use Rattle.state.specs.declared.Report.the-variants.{CarryOn, Done, Take, Give}
 use Rattle.records.specs.declared.Event.{Event}
 use Rattle.records.specs.declared.Event.the-variants as Event
 use Rattle.records.specs.Bytes.{recordAt, byte, word, long}
-use Rattle.records.specs.Records.{tasks}
+use Rattle.records.specs.Records.{taskCount}
 
 -- "task (1 I; 2 S; 4-5 T; 6-7 D; 8-9 C; 16-31 limits)"
 unfoldable pub task : List ℕ → Task
@@ -25,13 +25,13 @@ task r = record {
 
 -- the record of the task at a position; no bytes past the last task, whose entries are zeros
 unfoldable pub taskRecord : List ℕ → ℕ → List ℕ
-taskRecord file k = cond (ltb k (tasks file)) (recordAt file (1 + k)) []
+taskRecord file k = cond (ltb k (taskCount file)) (recordAt file (1 + k)) []
 
 -- "setting (byte 1 F; 4-7 G; 8-11 starting tick)", and the tasks
 unfoldable pub table : List ℕ → Table
 table file =
     let setting = recordAt file 0 in
-    record { full = byte setting 1; round = long setting 4; count = tasks file; tasks = listed (λ k. task (taskRecord file k)) 16 }
+    record { full = byte setting 1; round = long setting 4; count = taskCount file; tasks = listed (λ k. task (taskRecord file k)) 16 }
 
 unfoldable pub start : List ℕ → Tick
 start file = tick (long (recordAt file 0) 8)

@@ -2,10 +2,10 @@
 ghost use mathlib.Core.Path.{_≡_};
 ghost use Prim.Native.Nat.{_+_, _≤_, _<_};
 ghost use lib.ListN.{getD};
-ghost use Rattle.records.specs.Bytes.{recordAt, word, long, zeros};
+ghost use Rattle.records.specs.Bytes.{recordCount, recordAt, word, long, zeros};
 
 // The byte at i, and 0 past the end.
-pub fn byte(r: &[u8], i: usize) -> u8
+pub(crate) fn byte(r: &[u8], i: usize) -> u8
     ensures { λ b. ⌜ b ≡ getD (now (r .entry)) i 0 ⌝ }
 {
     if i < r.len() {
@@ -15,7 +15,7 @@ pub fn byte(r: &[u8], i: usize) -> u8
 }
 
 // The number of two bytes from i on.
-pub fn word(r: &[u8], i: usize) -> u16
+pub(crate) fn word(r: &[u8], i: usize) -> u16
     requires { ⌜ i < 32 ⌝ }
     ensures { λ b. ⌜ b ≡ word (now (r .entry)) i ⌝ }
 {
@@ -23,7 +23,7 @@ pub fn word(r: &[u8], i: usize) -> u16
 }
 
 // The number of four bytes from i on.
-pub fn long(r: &[u8], i: usize) -> u32
+pub(crate) fn long(r: &[u8], i: usize) -> u32
     requires { ⌜ i < 30 ⌝ }
     ensures { λ b. ⌜ b ≡ long (now (r .entry)) i ⌝ }
 {
@@ -31,7 +31,7 @@ pub fn long(r: &[u8], i: usize) -> u32
 }
 
 // Whether the n bytes from i on are zero.
-pub fn zeros(r: &[u8], i: usize, n: usize) -> bool
+pub(crate) fn zeros(r: &[u8], i: usize, n: usize) -> bool
     requires { ⌜ i + n ≤ 32 ⌝ }
     ensures { λ b. ⌜ b ≡ zeros (now (r .entry)) i n ⌝ }
 {
@@ -45,11 +45,18 @@ pub fn zeros(r: &[u8], i: usize, n: usize) -> bool
     true
 }
 
+// How many whole records there are.
+pub(crate) fn record_count(file: &[u8]) -> usize
+    ensures { λ n. ⌜ n ≡ recordCount (now (file .entry)) ⌝ }
+{
+    file.len() / 32
+}
+
 // The record at k, and no bytes where there is none.
-pub fn record(file: &[u8], k: usize) -> &[u8]
+pub(crate) fn record(file: &[u8], k: usize) -> &[u8]
     ensures { λ r. ⌜ now r ≡ recordAt (now (file .entry)) k ⌝ }
 {
-    if k < file.len() / 32 {
+    if k < record_count(file) {
         let from = k * 32;
         let to = from + 32;
         return &file[from..to];

@@ -3,7 +3,7 @@ ghost use mathlib.Core.Path.{_≡_};
 ghost use Prim.Native.Nat.{_+_, _*_};
 ghost use Rattle.units.specs.{Amounts.steps, Folds.listed};
 ghost use Rattle.records.specs.Bytes.{word};
-ghost use Rattle.records.specs.Records.{tasks};
+ghost use Rattle.records.specs.Records.{taskCount};
 ghost use Rattle.records.specs.Contents.{task, taskRecord, report};
 use crate::bytes;
 use state::Report;
@@ -42,7 +42,7 @@ fn task(r: &[u8]) -> Task
 
 // The record of the task at a position, of so many; no bytes past the last.
 fn task_record(file: &[u8], count: usize, k: usize) -> &[u8]
-    requires { ⌜ count ≡ tasks (now file) ⌝ }
+    requires { ⌜ count ≡ taskCount (now file) ⌝ }
     ensures { λ r. ⌜ now r ≡ taskRecord (now (file .entry)) k ⌝ }
 {
     if k < count {
@@ -52,8 +52,8 @@ fn task_record(file: &[u8], count: usize, k: usize) -> &[u8]
 }
 
 // The table's entries.
-pub fn entries(file: &[u8], count: usize) -> [Task; 16]
-    requires { ⌜ count ≡ tasks (now file) ⌝ }
+pub(crate) fn entries(file: &[u8], count: usize) -> [Task; 16]
+    requires { ⌜ count ≡ taskCount (now file) ⌝ }
     ensures { λ l. ⌜ l ≡ listed (λ k. task (taskRecord (now (file .entry)) k)) 16 ⌝ }
 {
     let none = task(&file[0..0]);
@@ -64,7 +64,7 @@ pub fn entries(file: &[u8], count: usize) -> [Task; 16]
     tasks
 }
 
-pub fn report(said: u8, resource: u8) -> Report
+pub(crate) fn report(said: u8, resource: u8) -> Report
     ensures { λ r. ⌜ r ≡ report said resource ⌝ }
 {
     if said == 0 {

@@ -1,52 +1,57 @@
 // What kind of record it is, and whether all are in their places. Every byte that a record's kind does not name is zero.
 ghost use mathlib.Core.Path.{_≡_};
-ghost use Prim.Native.Nat.{_+_, _-_};
+ghost use mathlib.Core.Bool.{_&&_};
+ghost use Prim.Native.Nat.{_+_, _-_, _≤_};
+ghost use lib.Dec.{eqb};
 ghost use Rattle.units.specs.Folds.{all};
-ghost use Rattle.records.specs.Bytes.{records, recordAt};
-ghost use Rattle.records.specs.Records.{sized, isSetting, isTask, happens, isEvent};
-use crate::FILE;
+ghost use Rattle.records.specs.Bytes.{recordCount, recordAt, byte, zeros};
+ghost use Rattle.records.specs.Records.{sized, isSetting, isTask, eventFits, isEvent, taskCount};
+use crate::MOST_BYTES;
 use crate::bytes;
 
 // Whether so many bytes are whole records, one or more, and no more than a file has.
-pub fn sized(length: usize) -> bool
-    ensures { λ b. ⌜ b ≡ sized length ⌝ }
+pub(crate) fn sized(n: usize) -> bool
+    ensures { λ b. ⌜ b ≡ sized n ⌝ }
 {
-    if length < 1 {
+    if n < 1 {
         return false;
     }
-    if FILE < length {
+    if MOST_BYTES < n {
         return false;
     }
-    length % 32 == 0
+    n % 32 == 0
 }
 
-pub fn is_setting(r: &[u8]) -> bool
+// Whether the first byte is that of the kind, and two runs of bytes are zero.
+fn kind_fits(r: &[u8], kind: u8, i: usize, n: usize, j: usize, m: usize) -> bool
+    requires { ⌜ i + n ≤ 32 ⌝ }
+    requires { ⌜ j + m ≤ 32 ⌝ }
+    ensures { λ b. ⌜ b ≡ (eqb (byte (now (r .entry)) 0) kind && (zeros (now (r .entry)) i n && zeros (now (r .entry)) j m)) ⌝ }
+{
+    if bytes::byte(r, 0) != kind {
+        return false;
+    }
+    if !bytes::zeros(r, i, n) {
+        return false;
+    }
+    bytes::zeros(r, j, m)
+}
+
+pub(crate) fn is_setting(r: &[u8]) -> bool
     ensures { λ b. ⌜ b ≡ isSetting (now (r .entry)) ⌝ }
 {
-    if bytes::byte(r, 0) != 1 {
-        return false;
-    }
-    if !bytes::zeros(r, 2, 2) {
-        return false;
-    }
-    bytes::zeros(r, 12, 20)
+    kind_fits(r, 1, 2, 2, 12, 20)
 }
 
-pub fn is_task(r: &[u8]) -> bool
+fn is_task(r: &[u8]) -> bool
     ensures { λ b. ⌜ b ≡ isTask (now (r .entry)) ⌝ }
 {
-    if bytes::byte(r, 0) != 2 {
-        return false;
-    }
-    if !bytes::zeros(r, 3, 1) {
-        return false;
-    }
-    bytes::zeros(r, 10, 6)
+    kind_fits(r, 2, 3, 1, 10, 6)
 }
 
 // Whether three bytes are a release, or a tick with its report. Byte 3 names a resource at a take alone.
-fn happens(kind: u8, said: u8, resource: u8) -> bool
-    ensures { λ b. ⌜ b ≡ happens kind said resource ⌝ }
+fn event_fits(kind: u8, said: u8, resource: u8) -> bool
+    ensures { λ b. ⌜ b ≡ eventFits kind said resource ⌝ }
 {
     if kind == 1 {
         return resource == 0;
@@ -72,14 +77,29 @@ fn is_event(r: &[u8]) -> bool
     if !bytes::zeros(r, 4, 28) {
         return false;
     }
-    happens(bytes::byte(r, 1), bytes::byte(r, 2), bytes::byte(r, 3))
+    event_fits(bytes::byte(r, 1), bytes::byte(r, 2), bytes::byte(r, 3))
+}
+
+// How many tasks follow the setting.
+pub(crate) fn task_count(file: &[u8]) -> usize
+    ensures { λ r. ⌜ r ≡ taskCount (now (file .entry)) ⌝ }
+{
+    let n = bytes::record_count(file);
+    let mut k: usize = 0;
+    while 1 + k < n {
+        if !is_task(bytes::record(file, 1 + k)) {
+            return k;
+        }
+        k += 1;
+    }
+    k
 }
 
 // Whether each record from the first on is an event.
-pub fn all_events(file: &[u8], first: usize) -> bool
-    ensures { λ b. ⌜ b ≡ all (λ k. isEvent (recordAt (now (file .entry)) (first + k))) (records (now (file .entry)) - first) ⌝ }
+pub(crate) fn all_events(file: &[u8], first: usize) -> bool
+    ensures { λ b. ⌜ b ≡ all (λ k. isEvent (recordAt (now (file .entry)) (first + k))) (recordCount (now (file .entry)) - first) ⌝ }
 {
-    let n = file.len() / 32;
+    let n = bytes::record_count(file);
     let mut k = first;
     while k < n {
         if !is_event(bytes::record(file, k)) {

@@ -1,6 +1,6 @@
 // A record file, read: whether it is well-formed, and what its records say.
 ghost use mathlib.Core.Path.{_≡_};
-ghost use Rattle.records.specs.Records.{tasks, firstEvent, events, wellFormed};
+ghost use Rattle.records.specs.Records.{firstEvent, eventCount, wellFormed};
 ghost use Rattle.records.specs.Contents.{table, start, event};
 use state::Report;
 use table::Table;
@@ -15,36 +15,21 @@ pub enum Event {
     Tick(Report),
 }
 
-// How many bytes a file has at the most.
-pub const FILE: usize = 65536;
-
-// How many tasks follow the setting.
-pub fn tasks(file: &[u8]) -> usize
-    ensures { λ r. ⌜ r ≡ tasks (now (file .entry)) ⌝ }
-{
-    let n = file.len() / 32;
-    let mut k: usize = 0;
-    while 1 + k < n {
-        if !kinds::is_task(bytes::record(file, 1 + k)) {
-            return k;
-        }
-        k += 1;
-    }
-    k
-}
+// How long a file is at the most.
+pub const MOST_BYTES: usize = 65536;
 
 // Which record is the first event.
 pub fn first_event(file: &[u8]) -> usize
     ensures { λ r. ⌜ r ≡ firstEvent (now (file .entry)) ⌝ }
 {
-    1 + tasks(file)
+    1 + kinds::task_count(file)
 }
 
 // How many events there are.
-pub fn events(file: &[u8]) -> usize
-    ensures { λ r. ⌜ r ≡ events (now (file .entry)) ⌝ }
+pub fn event_count(file: &[u8]) -> usize
+    ensures { λ r. ⌜ r ≡ eventCount (now (file .entry)) ⌝ }
 {
-    let n = file.len() / 32;
+    let n = bytes::record_count(file);
     let first = first_event(file);
     if n < first {
         return 0;
@@ -72,7 +57,7 @@ pub fn table(file: &[u8]) -> Table
     let setting = bytes::record(file, 0);
     let full = bytes::byte(setting, 1);
     let round = bytes::long(setting, 4);
-    let count = tasks(file);
+    let count = kinds::task_count(file);
     let tasks = contents::entries(file, count);
     Table {
         full,

@@ -7,16 +7,16 @@ use lib.ListN.{length}
 use lib.Seq.{sets-eq}
 use borrow.Author.Tests.{le-leb, lt-leb}
 use Rattle.lines.specs.declared.Line.{Line}
-use Rattle.lines.specs.Lines.{text, laid, holds, taken}
+use Rattle.lines.specs.Lines.{text, laid, leaves, answers}
 use Rattle.lines.specs.Writing.{Put}
 use Rattle.lines.proofs.Laws.Lengths.{text-le}
 
 -- what a write leaves and answers
 abbrev pub Written : ℕ → List ℕ → List ℕ → ℕ → List ℕ → Type 0
-Written room lent text r m = (m ≡ holds room lent text) × (r ≡ taken room lent text)
+Written room lent text r m = (m ≡ leaves room lent text) × (r ≡ answers room lent text)
 
-pub written : {m : List ℕ} {r : ℕ} (l : List ℕ) (line : Line) → 64 ≤ length l → Put l 0 (text line) r m → Written 64 l (text line) r m
-written l line h p =
+pub put-written : {m : List ℕ} {r : ℕ} (l : List ℕ) (line : Line) → 64 ≤ length l → Put l 0 (text line) r m → Written 64 l (text line) r m
+put-written l line h p =
     let z : 0 + length (text line) ≡ length (text line) = omega arith in
     let f : 0 + length (text line) ≤ length l = omega (arith, text-le line) in
     (p .holds ∙ sets-eq (text line) l 0 f ∙ simp (z, le-leb 64 (length l) h), p .next ∙ simp (z, le-leb 64 (length l) h))
@@ -28,8 +28,8 @@ unwritten room l xs h = (simp (lt-leb room (length l) h), simp (lt-leb room (len
 abbrev pub Laid : List ℕ → List ℕ → ℕ → List ℕ → Type 0
 Laid lent text r m = (m ≡ laid lent text) × (r ≡ length text)
 
-pub wrote : {m : List ℕ} {r : ℕ} (room : ℕ) (l xs : List ℕ) → room ≤ length l → Written room l xs r m → Laid l xs r m
-wrote room l xs h w = (w .0 ∙ simp (le-leb room (length l) h), w .1 ∙ simp (le-leb room (length l) h))
+pub written-laid : {m : List ℕ} {r : ℕ} (room : ℕ) (l xs : List ℕ) → room ≤ length l → Written room l xs r m → Laid l xs r m
+written-laid room l xs h w = (w .0 ∙ simp (le-leb room (length l) h), w .1 ∙ simp (le-leb room (length l) h))
 
-pub writes : {m : List ℕ} {r : ℕ} (room : ℕ) (l xs : List ℕ) → room ≤ length l → Laid l xs r m → Written room l xs r m
-writes room l xs h w = (w .0 ∙ simp (le-leb room (length l) h), w .1 ∙ simp (le-leb room (length l) h))
+pub laid-written : {m : List ℕ} {r : ℕ} (room : ℕ) (l xs : List ℕ) → room ≤ length l → Laid l xs r m → Written room l xs r m
+laid-written room l xs h w = (w .0 ∙ simp (le-leb room (length l) h), w .1 ∙ simp (le-leb room (length l) h))

@@ -50,6 +50,15 @@ fail-requires-2 c κs = search needs
 returns-2 : tie.Need-returns-2
 returns-2 c = search needs
 
+array-share-prefix-file-2 : tie.Need-array-share-prefix-file-2
+array-share-prefix-file-2 c = search needs
+
+slice-aggregate-name-position : tie.Need-slice-aggregate-name-position
+slice-aggregate-name-position c = search needs
+
+name-position-requires : tie.Need-name-position-requires
+name-position-requires c κs = search needs
+
 returns-3 : tie.Need-returns-3
 returns-3 c = search needs
 
@@ -73,4 +82,7 @@ list-spec =
     slice-aggregate-fail
     fail-requires-2
     returns-2
+    array-share-prefix-file-2
+    slice-aggregate-name-position
+    name-position-requires
     returns-3)

@@ -5,7 +5,7 @@ use Rattle.units.proofs.Laws.Tests.{passed, failed}
 use Rattle.records.proofs.Laws.{lines-within}
 use Rattle.lines.specs.Lines.{text}
 use Rattle.lines.specs.declared.Line.the-variants as Line
-use Rattle.lines.proofs.Laws.Whole.{wrote, unwritten, writes}
+use Rattle.lines.proofs.Laws.Whole.{written-laid, unwritten, laid-written}
 use Rattle.listing.specs.Listing.{listed, listing}
 use Rattle.listing.proofs.Laws.{listed-whole, listed-malformed, listed-well-formed}
 use borrow.Author.Needs.{needs}
@@ -32,7 +32,7 @@ returns-2 c =
     let l = a .out .now in
     let room : 131072 ≤ length l = omega (arith, c .before .before .before .before .before .before .if1 .left) in
     listed-malformed l (a .file .now) (failed (c .before .before .before .before .before .well-formed .ensures) (c .before .before .before .before .if2 .taken))
-    (writes 131072 l (text (Line.Table 1)) room (wrote 64 l (text (Line.Table 1)) (omega arith) (c .before .before .write .ensures)))
+    (laid-written 131072 l (text (Line.Table 1)) room (written-laid 64 l (text (Line.Table 1)) (omega arith) (c .before .before .write .ensures)))
 
 write-listed-requires : tie.Need-write-listed-requires
 write-listed-requires c κs =
@@ -46,7 +46,7 @@ returns-3 c =
     let a = c .before .before .before .before .before .before .before .before .before .args in
     let room : 131072 ≤ length (a .out .now) = omega (arith, c .before .before .before .before .before .before .if1 .left) in
     listed-well-formed (a .out .now) (a .file .now) (passed (c .before .before .before .before .before .well-formed .ensures) (c .before .before .before .before .if2 .left))
-    (writes 131072 (a .out .now) (listed (a .file .now)) room (c .before .before .write-listed .ensures))
+    (laid-written 131072 (a .out .now) (listed (a .file .now)) room (c .before .before .write-listed .ensures))
 
 pub list-spec : {M : Type 1} → statement M
 list-spec =

@@ -12,8 +12,8 @@ byte-requires c κs = search needs
 long-requires : tie.Need-long-requires
 long-requires c κs = search needs
 
-tasks-requires : tie.Need-tasks-requires
-tasks-requires c κs = search needs
+task-count-requires : tie.Need-task-count-requires
+task-count-requires c κs = search needs
 
 entries-requires : tie.Need-entries-requires
 entries-requires c κs = search needs
@@ -25,11 +25,11 @@ returns c =
       ← c .before .before .before .before .record .ensures,
       ← c .before .before .before .byte .ensures,
       ← c .before .before .long .ensures,
-      ← c .before .tasks .ensures,
+      ← c .before .task-count .ensures,
       ← c .entries .ensures,
     )
 
 pub table-spec : {M : Type 1} → statement M
 table-spec =
     tie.close
-    (tie.spec record-requires byte-requires long-requires tasks-requires entries-requires returns)
+    (tie.spec record-requires byte-requires long-requires task-count-requires entries-requires returns)

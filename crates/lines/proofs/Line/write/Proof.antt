@@ -2,7 +2,7 @@ use mathlib.Core.Path.{sym, ap}
 use native.Mathlib.Omega.{arith}
 use Rattle.lines.specs.Lines.{text}
 use Rattle.lines.proofs.Laws.Pieces.{put-as}
-use Rattle.lines.proofs.Laws.Whole.{written, unwritten}
+use Rattle.lines.proofs.Laws.Whole.{put-written, unwritten}
 use borrow.Author.Needs.{needs}
 use Rattle.lines.proofs.Line.write.Statement.{statement}
 use Rattle.lines.proofs.Line.write.Tie as tie
@@ -38,25 +38,25 @@ same-length : tie.Need-same-length
 same-length c = search needs
 
 returns-2 : tie.Need-returns-2
-returns-2 c = written _ _ (omega arith) (put-as (c .before .before .table .ensures) (sym (ap text (c .before .before .before .before .before .self .given .1))))
+returns-2 c = put-written _ _ (omega arith) (put-as (c .before .before .table .ensures) (sym (ap text (c .before .before .before .before .before .self .given .1))))
 
 same-length-2 : tie.Need-same-length-2
 same-length-2 c = search needs
 
 returns-3 : tie.Need-returns-3
-returns-3 c = written _ _ (omega arith) (put-as (c .before .before .release .ensures) (sym (ap text (c .before .before .before .before .before .self2 .given .1))))
+returns-3 c = put-written _ _ (omega arith) (put-as (c .before .before .release .ensures) (sym (ap text (c .before .before .before .before .before .self2 .given .1))))
 
 same-length-3 : tie.Need-same-length-3
 same-length-3 c = search needs
 
 returns-4 : tie.Need-returns-4
-returns-4 c = written _ _ (omega arith) (put-as (c .before .before .run .ensures) (sym (ap text (c .before .before .before .before .before .self3 .given .1))))
+returns-4 c = put-written _ _ (omega arith) (put-as (c .before .before .run .ensures) (sym (ap text (c .before .before .before .before .before .self3 .given .1))))
 
 same-length-4 : tie.Need-same-length-4
 same-length-4 c = search needs
 
 returns-5 : tie.Need-returns-5
-returns-5 c = written _ _ (omega arith) (put-as (c .before .before .refused .ensures) (sym (ap text (c .before .before .before .before .before .self4 .given .1))))
+returns-5 c = put-written _ _ (omega arith) (put-as (c .before .before .refused .ensures) (sym (ap text (c .before .before .before .before .before .self4 .given .1))))
 
 pub write-spec : {M : Type 1} → statement M
 write-spec =

@@ -7,6 +7,9 @@ use borrow.Author.Needs.{needs}
 use Rattle.records.proofs.bytes.record.Statement.{statement}
 use Rattle.records.proofs.bytes.record.Tie as tie
 
+record-count-requires : tie.Need-record-count-requires
+record-count-requires c κs = search needs
+
 mul-from : tie.Need-mul-from
 mul-from c = search needs
 
@@ -25,9 +28,9 @@ part-result-end c = search needs
 returns : tie.Need-returns
 unfolding recordAt
 returns c =
-    let k = c .before .before .args .k in
+    let k = c .before .before .before .before .args .k in
     let e : k * 32 + 32 - k * 32 ≡ 32 = omega arith in
-    simp (e, lt-ltb _ _ (c .before .if1 .taken))
+    rw (e, ← c .before .before .record-count .ensures, lt-ltb _ _ (c .before .if1 .taken))
 
 sub-result-2 : tie.Need-sub-result-2
 sub-result-2 c = search needs
@@ -40,12 +43,13 @@ part-result-end-2 c = search needs
 
 returns-2 : tie.Need-returns-2
 unfolding recordAt
-returns-2 c = simp (le-ltb _ _ (c .before .if1 .left))
+returns-2 c = rw (← c .before .before .record-count .ensures, le-ltb _ _ (c .before .if1 .left))
 
 pub record-spec : {M : Type 1} → statement M
 record-spec =
     tie.close
     (tie.spec
+    record-count-requires
     mul-from
     add-to
     sub-result

@@ -29,8 +29,8 @@ byte-requires-3 c κs = search needs
 byte-requires-4 : tie.Need-byte-requires-4
 byte-requires-4 c κs = search needs
 
-happens-requires : tie.Need-happens-requires
-happens-requires c κs = search needs
+event-fits-requires : tie.Need-event-fits-requires
+event-fits-requires c κs = search needs
 
 returns-3 : tie.Need-returns-3
 unfolding isEvent
@@ -42,7 +42,7 @@ returns-3 c =
       ← c .before .before .byte3 .ensures,
       ← c .before .byte4 .ensures,
     )
-    (c .happens .ensures)
+    (c .event-fits .ensures)
 
 pub is-event-spec : {M : Type 1} → statement M
 is-event-spec =
@@ -55,5 +55,5 @@ is-event-spec =
     byte-requires-2
     byte-requires-3
     byte-requires-4
-    happens-requires
+    event-fits-requires
     returns-3)

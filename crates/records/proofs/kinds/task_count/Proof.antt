@@ -6,16 +6,19 @@ use native.Mathlib.Omega.{arith}
 use Rattle.units.specs.Folds.{lowest, over}
 use Rattle.units.proofs.Laws.Folds.{lowest-next, lowest-is, none-below}
 use Rattle.units.proofs.Laws.Tests.{passed, failed}
-use Rattle.records.specs.Bytes.{records, recordAt}
-use Rattle.records.specs.Records.{isTask, tasks}
-use Rattle.records.proofs.tasks.Statement.{statement}
-use Rattle.records.proofs.tasks.Tie as tie
+use Rattle.records.specs.Bytes.{recordCount, recordAt}
+use Rattle.records.specs.Records.{isTask, taskCount}
+use Rattle.records.proofs.kinds.task_count.Statement.{statement}
+use Rattle.records.proofs.kinds.task_count.Tie as tie
 
 abbrev Inv-loop : tie.InvT-loop
-Inv-loop file n k₀ k = (n ≡ records file) × (k ≤ n - 1) × (lowest (λ j. not (isTask (recordAt file (1 + j)))) k ≡ k)
+Inv-loop file n k₀ k = (n ≡ recordCount file) × (k ≤ n - 1) × (lowest (λ j. not (isTask (recordAt file (1 + j)))) k ≡ k)
 
 abbrev μ-loop : tie.MeasureT-loop
 μ-loop file n k₀ k = n - k
+
+record-count-requires : tie.Need-record-count-requires Inv-loop μ-loop
+record-count-requires c κs = search needs
 
 loop-holds : tie.Need-loop-holds Inv-loop μ-loop
 unfolding lowest over
@@ -34,7 +37,7 @@ is-task-requires : tie.Need-is-task-requires Inv-loop μ-loop
 is-task-requires c κs = search needs
 
 returns : tie.Need-returns Inv-loop μ-loop
-unfolding tasks
+unfolding taskCount
 returns c =
     let l = c .before .before .before .before .loop in
     let wrong = sym (ap isTask (c .before .before .record .ensures)) ∙ failed (c .before .is-task .ensures) (c .if1 .taken) in
@@ -53,18 +56,19 @@ loop-again c =
     (l .inv .0, omega arith, lowest-next _ (l .k) (l .inv .2) (ap not right))
 
 returns-2 : tie.Need-returns-2 Inv-loop μ-loop
-unfolding tasks
+unfolding taskCount
 returns-2 c =
     let l = c .before .loop in
-    let e : l .k ≡ records (c .before .before .before .args .file .now) - 1 = omega arith in
+    let e : l .k ≡ recordCount (c .before .before .before .before .args .file .now) - 1 = omega arith in
     sym (l .inv .2) ∙ ap (lowest _) e
 
-pub tasks-spec : {M : Type 1} → statement M
-tasks-spec =
+pub task-count-spec : {M : Type 1} → statement M
+task-count-spec =
     tie.close
     (tie.spec
     Inv-loop
     μ-loop
+    record-count-requires
     loop-holds
     add-loop
     add-record
