@@ -23,7 +23,8 @@ fn read(fd: i32, buffer: &mut [u8]) -> isize {
     end as isize
 }
 
-// Names the task that a table's number is about, on standard error, since the listing has the number alone.
+// Names the task that a table's number is about, on standard error, since the listing has the number alone. It is asked for
+// where the table's line, of 8 bytes, is all there is.
 fn name_position(file: &[u8]) {
     if !records::well_formed(file) {
         return;
@@ -57,7 +58,9 @@ fn list(fd: i32, name: &[u8]) {
         os::fail(b"standard output");
         return;
     }
-    name_position(&file[..length]);
+    if end < 10 {
+        name_position(&file[..length]);
+    }
 }
 
 fn list_named() {

@@ -62,6 +62,9 @@ name-position-requires c κs = search needs
 returns-3 : tie.Need-returns-3
 returns-3 c = search needs
 
+returns-4 : tie.Need-returns-4
+returns-4 c = search needs
+
 pub list-spec : {M : Type 1} → statement M
 list-spec =
     tie.close
@@ -85,4 +88,5 @@ list-spec =
     array-share-prefix-file-2
     slice-aggregate-name-position
     name-position-requires
-    returns-3)
+    returns-3
+    returns-4)

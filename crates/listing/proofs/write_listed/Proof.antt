@@ -3,7 +3,6 @@ use native.Mathlib.Omega.{arith}
 use lib.ListN.{length}
 use Rattle.lines.specs.Lines.{text}
 use Rattle.lines.specs.declared.Line.the-variants as Line
-use Rattle.lines.proofs.Laws.Lengths.{text-le}
 use Rattle.lines.proofs.Laws.Following.{begins-more, lent-length}
 use Rattle.records.specs.Records.{eventCount}
 use Rattle.listing.specs.Listing.{page}
