@@ -39,7 +39,7 @@ pub record Page : Type 0 where
 unfoldable pub more : List ℕ → Table → ℕ → Page → Page
 more file t k page = let x = step t (page .state) (event file (firstEvent file + k)) in record { text = page .text ++ text (x .line); state = x .state }
 
--- the lines of the first n events, from a state
+-- the lines of the first n events, one after the other, from a state
 unfoldable pub page : List ℕ → Table → State → ℕ → Page
 page file t s n = over (λ k. true) (more file t) (record { text = []; state = s }) n
 

@@ -61,7 +61,7 @@ fn tick(table: Table, state: State, said: Report) -> Step
     ticked(state, machine::report(table, chosen.state, said))
 }
 
-pub fn step(table: Table, state: State, event: Event) -> Step
+pub(crate) fn step(table: Table, state: State, event: Event) -> Step
     ensures { λ r. ⌜ r ≡ step table state event ⌝ }
 {
     match event {
