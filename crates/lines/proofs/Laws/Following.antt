@@ -5,8 +5,6 @@ use Prim.Native.Nat.{ℕ, _+_, _-_, _≤_}
 use native.Mathlib.Omega.{arith}
 use lib.ListN.{length, take, drop, length-append, length-drop, drop-of-length-le}
 use lib.Seq.{take-all, take-append-seam, drop-append-seam, drop-drop}
-use Rattle.lines.specs.declared.Line.{Line}
-use Rattle.lines.specs.Lines.{text}
 use Rattle.lines.proofs.Laws.Whole.{Laid}
 
 -- l is l₀ with the text xs in the place of its start, and `end` is where it ends; what a loop of writes keeps
