@@ -24,7 +24,6 @@ use Rattle.listing.specs.Listing as Listing
 use Rattle.ponds.specs.Ponds.{p5, ponds, Worked}
 use Rattle.ponds.specs.Runs as Runs
 use Rattle.ponds.specs.Histories.{calls, refused, P5, rollOver, RollOver}
-use Rattle.ponds.specs.Variants as Variants
 use Rattle.ponds.specs.Document003 as Document003
 use Rattle.ponds.specs.Broken.{Broken}
 
@@ -42,7 +41,7 @@ rollOver-limits (suc (suc zero)) l = refl
 rollOver-limits (suc (suc (suc k))) l = absurd (omega arith)
 
 computed : Worked ponds × P5 × RollOver × Document003.Misses × Broken
-unfolding given Up Clock.after Clock.distance over sum largest smallest some all lowest first listed set has with takes users ceiling ceilings ticksInRound independentSum B synchronizationSum countInRange settingInRange inRange fault faultAt faulty overloaded sums verdict empty passes fresh place firstInOrder lastHolder heldResources blocked runner shortestAhead fastest inherited markAt rules turn choice Report.late Report.finished Report.reportRun Report.report notPendingFits pendingFits startedFits waitFits jobFits unused positionFits positionsFit unchanged consistent Machine.release Machine.choose Machine.report lines ticksClosed stepsGiven section endsAt hasEnded Bytes.recordAt Bytes.word Bytes.long Bytes.zeros Records.sized Records.isSetting Records.isTask Records.eventFits Records.isEvent Records.taskCount Records.wellFormed Contents.task Contents.taskRecord Contents.table Contents.start Contents.report Contents.event Lines.digits Lines.decimal Lines.field Lines.runner Lines.mode Lines.text Listing.step Listing.more Listing.page Listing.listed Listing.listing Runs.after Runs.lastLine calls refused Variants.lines Document003.blocking Document003.rules Document003.turn Document003.slow
+unfolding given Up Clock.after Clock.distance over sum largest smallest some all lowest first listed set has with takes users ceiling ceilings ticksInRound independentSum B synchronizationSum countInRange settingInRange inRange fault faultAt faulty overloaded sums verdict empty passes fresh place firstInOrder lastHolder heldResources blocked runner shortestAhead fastest inherited markAt rules turn choice Report.late Report.finished Report.reportRun Report.report notPendingFits pendingFits startedFits waitFits jobFits unused positionFits positionsFit unchanged consistent Machine.release Machine.choose Machine.report lines ticksClosed stepsGiven section endsAt hasEnded Bytes.recordAt Bytes.word Bytes.long Bytes.zeros Records.sized Records.isSetting Records.isTask Records.eventFits Records.isEvent Records.taskCount Records.wellFormed Contents.task Contents.taskRecord Contents.table Contents.start Contents.report Contents.event Lines.digits Lines.decimal Lines.field Lines.runner Lines.mode Lines.text Listing.step Listing.more Listing.page Listing.listed Listing.listing Runs.after Runs.lastLine calls refused Document003.blocking Document003.rules Document003.turn Document003.slow
 computed = (
   (refl, (refl, (refl, (refl, (refl, (refl, (refl, (refl, (refl, (refl, (refl, (refl, (refl, (refl, (refl, (refl, (refl, tt))))))))))))))))),
   record { passed = record { verdict = refl; limits = p5-limits }; tick = refl; taken = refl; waits = refl; runs = refl; ends = refl; refusals = refl },

@@ -5,14 +5,14 @@ use lib.Dec.{ltb, eqb}
 use Rattle.units.specs.Clock as Clock
 use Rattle.units.specs.Folds.{largest}
 use Rattle.table.specs.{declared.Table.Table, Table.taskAt, Table.D, Table.ceilings}
-use Rattle.state.specs.{declared.State.State, declared.Held.the-variants.Nothing, declared.Mark.Mark, declared.Mark.the-variants.Absent, declared.Mark.the-variants.At, declared.Mode.the-variants.Independent, declared.Mode.the-variants.Synchronization, declared.Mode.Mode, declared.Report.Report, declared.Report.the-variants.CarryOn, declared.Report.the-variants.Take, declared.Runner.Runner, declared.Runner.the-variants.Nobody, declared.Runner.the-variants.Job, State.jobAt, Order.placeAt, Order.positionOf, Order.noPlace}
+use Rattle.state.specs.{declared.State.State, declared.Held.the-variants.Nothing, declared.Mark.Mark, declared.Mark.the-variants.Absent, declared.Mark.the-variants.At, declared.Mode.the-variants.Independent, declared.Mode.the-variants.Synchronization, declared.Report.the-variants.CarryOn, declared.Report.the-variants.Take, declared.Runner.the-variants.Nobody, declared.Runner.the-variants.Job, State.jobAt, Order.placeAt, Order.positionOf, Order.noPlace}
 use Rattle.choice.specs.{declared.Turn.Turn, Choice.top, Choice.bars, Choice.runner, Choice.inherited, Choice.oldMark, Choice.markAt, Choice.noHolderBehind, Choice.idle}
 use Rattle.report.specs.Report.{reportAs}
 use Rattle.machine.specs.Machine.{releasedAt}
-use Rattle.promise.specs.History.{Call, release, choose, report, Line, start, isTick}
-use Rattle.ponds.specs.Variants.{Variant, answered, lines, stateAfter}
-use Rattle.ponds.specs.Histories as Histories
-use Rattle.ponds.specs.Histories.{calls, told, counted, refused, before2, later2}
+use Rattle.promise.specs.History.{Machine, written, Call, release, choose, answered, Line, lines, stateAfter, start, isTick}
+use Rattle.promise.specs.Promise.{stateTaken, since}
+use Rattle.ponds.specs.Variants.{by}
+use Rattle.ponds.specs.Histories.{calls, told, ticked, counted, refused, before2, later2}
 use Rattle.ponds.specs.Runs as Runs
 use Rattle.ponds.specs.Ponds.{task, table, p5}
 
@@ -45,11 +45,8 @@ unfoldable pub turn : Table → State → Turn
 turn t s = cond (ltb (top s) noPlace) (rules t s (runner t s)) idle
 
 -- the machine by it
-abbrev pub document003 : Variant
-document003 = record { taken = λ t s p. arrived t (releasedAt t s p) p; turn = turn; said = λ t s u said. reportAs t s u (u .runner) said }
-
-abbrev pub ticked : Table → State → List Call → Report → ℕ × ℕ × Runner × Mode × ℕ × ℕ
-ticked t s calls said = let h = stateAfter document003 t s (choose ∷ calls) in told h (answered document003 t h (report said))
+abbrev pub document003 : Machine
+document003 = by (record { taken = λ t s p. arrived t (releasedAt t s p) p; turn = turn; said = λ t s u said. reportAs t s u (u .runner) said })
 
 -- how many ticks were below full speed
 unfoldable pub slow : Table → List Line → ℕ
@@ -63,10 +60,10 @@ abbrev pub p5First : List Call
 p5First = calls (Runs.release 3 ∷ Runs.tick (Take 0) ∷ Runs.release 0 ∷ Runs.release 1 ∷ [])
 
 abbrev pub p5Taken : State
-p5Taken = answered document003 p5 (stateAfter document003 p5 (start p5 0) before2) (release 2) .state
+p5Taken = stateTaken document003 p5 0 before2 2
 
 abbrev pub p5Since : ℕ → List Line
-p5Since n = lines document003 p5 p5Taken (later2 n)
+p5Since n = since document003 p5 0 before2 2 (later2 n)
 
 -- P5 with positions 0 and 1 exchanged
 abbrev pub exchanged : Table
@@ -77,21 +74,21 @@ exchanged = table 6 280 4 (task 10 18 6 6 0 0 ∷ task 10 6 1 6 0 0 ∷ task 14 
 -- Of equal deadlines it says nothing, so that Theorem 3 claims its rule for any order among them: 01's is taken. With positions 0 and 1 exchanged no call is refused.
 pub record Misses : Type 0 where
   -- in tick 1 position 0 runs over a preempted holder: independent, speed I. By 01's rule 2: synchronization, speed S, and it ends
-  pub stays : ticked p5 (start p5 0) p5First CarryOn ≡ (1, 0, Job 0, Independent, 1, 0)
-  pub differs : Histories.ticked p5 (start p5 0) p5First CarryOn ≡ (1, 0, Job 0, Synchronization, 6, 2)
+  pub stays : ticked document003 p5 (start document003 p5 0) p5First CarryOn ≡ (1, 0, Job 0, Independent, 1, 0)
+  pub differs : ticked written p5 (start written p5 0) p5First CarryOn ≡ (1, 0, Job 0, Synchronization, 6, 2)
   -- the mode is entered when position 2 arrives, with deadline 21: position 3 is marked
-  pub before : stateAfter document003 p5 (start p5 0) before2 .mark ≡ Absent
+  pub before : stateAfter document003 p5 (start document003 p5 0) before2 .mark ≡ Absent
   pub arrives : p5Taken .mark ≡ At (record { deadline = Clock.tick 280; position = 3 })
   pub deadline : jobAt p5Taken 2 .deadline .0 ≡ 21
   -- up to the end of tick 19 no call is refused, and from tick 7 on no tick is below full speed
-  pub refusals : refused (lines document003 p5 (start p5 0) (later2 9 ++ (release 2 ∷ before2))) ≡ 0
+  pub refusals : refused (lines document003 p5 (start document003 p5 0) (later2 9 ++ (release 2 ∷ before2))) ≡ 0
   pub fast : slow p5 (p5Since 9) ≡ 0
   -- in these 13 ticks position 2 was given nothing, nor is it in the next: position 3 runs
   pub waits : counted p5 2 (p5Since 9) ≡ (13, false, 0, Nothing)
   pub runs : told (stateAfter document003 p5 p5Taken (later2 9)) (answered document003 p5 (stateAfter document003 p5 p5Taken (later2 9)) choose) ≡ (20, 0, Job 3, Synchronization, 6, 0)
   -- "position 2 misses tick 21": the report of tick 20 is answered 16, as it is "still pending after this half"
-  pub misses : ticked p5 p5Taken (later2 9) CarryOn ≡ (20, 16, Nobody, Independent, 0, 0)
+  pub misses : ticked document003 p5 p5Taken (later2 9) CarryOn ≡ (20, 16, Nobody, Independent, 0, 0)
   pub pending : map (λ k. jobAt (stateAfter document003 p5 p5Taken (later2 10)) k .pending) (0 ∷ 1 ∷ 2 ∷ 3 ∷ []) ≡ false ∷ false ∷ true ∷ true ∷ []
   -- by the other order of equal deadlines: no call is refused up to the end of tick 21, and position 2 has ended
-  pub otherOrder : refused (lines document003 exchanged (start exchanged 0) (later2 11 ++ (release 2 ∷ before2))) ≡ 0
-  pub otherEnds : jobAt (stateAfter document003 exchanged (start exchanged 0) (later2 11 ++ (release 2 ∷ before2))) 2 .pending ≡ false
+  pub otherOrder : refused (lines document003 exchanged (start document003 exchanged 0) (later2 11 ++ (release 2 ∷ before2))) ≡ 0
+  pub otherEnds : jobAt (stateAfter document003 exchanged (start document003 exchanged 0) (later2 11 ++ (release 2 ∷ before2))) 2 .pending ≡ false

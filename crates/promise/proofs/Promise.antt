@@ -13,7 +13,7 @@ use Rattle.state.specs.declared.Answer.{Answer}
 use Rattle.state.specs.declared.Report.{Report}
 use Rattle.state.specs.declared.State.{State}
 use Rattle.state.specs.State.{jobAt}
-use Rattle.promise.specs.History.{Line, isOwn, Call, release, report, answered, isReport, isTick, isAt, ticksClosed, hasEnded}
+use Rattle.promise.specs.History.{written, Line, isOwn, Call, release, report, answered, isReport, isTick, isAt, ticksClosed, hasEnded}
 use Rattle.promise.specs.Promise.{Passed, TakenOn, since, Below, Promise}
 use Rattle.promise.proofs.Edge.Invariant.{passes}
 use Rattle.promise.proofs.Keep.Made.{Made, refused, takes-on, chooses, idles, runs, taken-on}
@@ -23,10 +23,10 @@ use Rattle.promise.proofs.History.Start.{at, at-good, made, then, heard
 use Rattle.promise.proofs.History.Whose.{whose}
 use Rattle.promise.proofs.Edge.View.{inside}
 
-module _ {t : Table} (passed : Passed t) (now : ℕ) (small : now < 2 ^ 32) where
+module _ {t : Table} (passed : Passed written t) (now : ℕ) (small : now < 2 ^ 32) where
   -- ---- a job that was taken on
 
-  module _ (before : List Call) (k : ℕ) (zero : TakenOn t now before k) (later : List Call) where
+  module _ (before : List Call) (k : ℕ) (zero : TakenOn written t now before k) (later : List Call) where
     abbrev lines-since : List Line
     lines-since = heard passed now small before k zero later
 
@@ -47,7 +47,7 @@ module _ {t : Table} (passed : Passed t) (now : ℕ) (small : now < 2 ^ 32) wher
         go (inl e) = e
         go (inr w) = absurd (omega (arith, w .1))
 
-    one-job : answered t state (release k) .number ≡ 0 → hasEnded t k lines-since ≡ true
+    one-job : answered written t state (release k) .number ≡ 0 → hasEnded t k lines-since ≡ true
     one-job again = go (tracked passed now small before k zero later)
       where
         go : Tells t state k lines-since ⊎ (hasEnded t k lines-since ≡ true) → hasEnded t k lines-since ≡ true
@@ -61,11 +61,11 @@ module _ {t : Table} (passed : Passed t) (now : ℕ) (small : now < 2 ^ 32) wher
     state-now = at passed now small calls
 
     -- no refusal has a number past 14: neither 15 nor 16, and no 9
-    pub numbers : (call : Call) → (answered t state-now call .number ≡ 0) ⊎ ((10 ≤ answered t state-now call .number) × (answered t state-now call .number ≤ 14))
+    pub numbers : (call : Call) → (answered written t state-now call .number ≡ 0) ⊎ ((10 ≤ answered written t state-now call .number) × (answered written t state-now call .number ≤ 14))
     numbers call = go (made passed now small calls call)
       where
         a : Answer
-        a = answered t state-now call
+        a = answered written t state-now call
 
         is : {b : Answer} → a ≡ b → a .number ≡ b .number
         is e = ap (λ (b : Answer). b .number) e
@@ -77,8 +77,8 @@ module _ {t : Table} (passed : Passed t) (now : ℕ) (small : now < 2 ^ 32) wher
         go (idles c h r f e) = inl (is e)
         go (runs p said c h r l f e) = inl (is e)
 
-    by-no-refusal : (call : Call) → (answered t state-now call .number ≡ 9 → ⊥) × (answered t state-now call .number ≡ 16 → ⊥)
-    by-no-refusal call = go (answered t state-now call .number) (numbers call)
+    by-no-refusal : (call : Call) → (answered written t state-now call .number ≡ 9 → ⊥) × (answered written t state-now call .number ≡ 16 → ⊥)
+    by-no-refusal call = go (answered written t state-now call .number) (numbers call)
       where
         go : (n : ℕ) → (n ≡ 0) ⊎ ((10 ≤ n) × (n ≤ 14)) → (n ≡ 9 → ⊥) × (n ≡ 16 → ⊥)
         go n (inl e) = (λ z. omega arith, λ z. omega arith)
@@ -88,11 +88,11 @@ module _ {t : Table} (passed : Passed t) (now : ℕ) (small : now < 2 ^ 32) wher
 
     module _ (said : Report) (k : ℕ) where
       abbrev a : Answer
-      a = answered t state-now (report said)
+      a = answered written t state-now (report said)
 
       -- whose it is
       abbrev Owner : Type 0
-      Owner = (before : List Call) × (later : List Call) × (calls ≡ later ++ (release k ∷ before)) × TakenOn t now before k × Below t k (since t now before k later)
+      Owner = (before : List Call) × (later : List Call) × (calls ≡ later ++ (release k ∷ before)) × TakenOn written t now before k × Below t k (since written t now before k later)
 
       owner : jobAt state-now k .pending ≡ true → Owner
       owner p =
@@ -129,7 +129,7 @@ module _ {t : Table} (passed : Passed t) (now : ℕ) (small : now < 2 ^ 32) wher
               let same : p ≡ k = eqb-true p k (sym (ap (isAt k) (ap (λ (b : Answer). b .runner) e ∙ r)) ∙ mine) in
               owner (ap (λ (i : ℕ). jobAt state-now i .pending) (sym same) ∙ f)
 
-pub promise : Promise
+pub promise : Promise written
 promise t passed = record {
   inTime = in-time passed;
   finished = finished passed;

@@ -1,12 +1,15 @@
--- A history: calls from one fresh start, each on the state of the answer before; and what its lines tell of a job.
+-- A history of a machine: calls from one fresh start, each on the state of the answer before; and what its lines tell of a job.
 use Prim.Native.Nat.{ℕ, _+_, min}
 use mathlib.Core.{Bool.Bool, Bool.true, Bool.false, Bool._&&_, Bool._||_, Bool.cond, List.List, List.[], List._∷_}
 use lib.Dec.{leb, eqb}
-use Rattle.units.specs.{Amounts.steps, Amounts.given, Clock.tick}
+use Rattle.units.specs.{declared.Tick.Tick, Amounts.steps, Amounts.given, Clock.tick}
 use Rattle.table.specs.{declared.Table.Table, Table.taskAt, Table.C, Table.limit}
-use Rattle.state.specs.{declared.State.State, declared.Answer.Answer, declared.Held.Held, declared.Held.the-variants.Nothing, declared.Held.the-variants.In, declared.Report.Report, declared.Report.the-variants.CarryOn, declared.Report.the-variants.Done, declared.Report.the-variants.Take, declared.Report.the-variants.Give, declared.Runner.Runner, State.fresh}
+use Rattle.admission.specs.declared.Verdict.{Verdict}
+use Rattle.admission.specs.Admission as Admission
+use Rattle.state.specs.{declared.State.State, declared.Answer.Answer, declared.Held.Held, declared.Held.the-variants.Nothing, declared.Held.the-variants.In, declared.Report.Report, declared.Report.the-variants.CarryOn, declared.Report.the-variants.Done, declared.Report.the-variants.Take, declared.Report.the-variants.Give, declared.Runner.Runner, declared.Start.Start}
 use Rattle.state.specs.declared.Runner.the-variants as Runs
-use Rattle.machine.specs.Machine as Machine
+use Rattle.state.specs.State as State
+use Rattle.machine.specs.Machine as Rules
 
 -- ---- the calls, and their lines
 
@@ -16,11 +19,23 @@ pub data Call : Type 0 where
   choose : Call
   report : Report → Call
 
--- what the machine answers, by its own rules
-abbrev pub answered : Table → State → Call → Answer
-answered t s (release k) = Machine.release t s k
-answered t s choose = Machine.choose t s
-answered t s (report said) = Machine.report t s said
+-- a machine: any functions of these types
+pub record Machine : Type 0 where
+  pub verdict : Table → Verdict
+  pub fresh : Table → Tick → Start
+  pub release : Table → State → ℕ → Answer
+  pub choose : Table → State → Answer
+  pub report : Table → State → Report → Answer
+
+-- the machine of the written rules
+abbrev pub written : Machine
+written = record { verdict = Admission.verdict; fresh = State.fresh; release = Rules.release; choose = Rules.choose; report = Rules.report }
+
+-- what a machine answers
+abbrev pub answered : Machine → Table → State → Call → Answer
+answered m t s (release k) = m .release t s k
+answered m t s choose = m .choose t s
+answered m t s (report said) = m .report t s said
 
 pub record Line : Type 0 where
   pub call : Call
@@ -32,17 +47,17 @@ current s [] = s
 current s (line ∷ before) = line .answer .state
 
 -- the lines of some calls from a state: each call is made on the state of the answer before it, handed on unaltered
-unfoldable pub lines : Table → State → List Call → List Line
-lines t s [] = []
-lines t s (call ∷ before) = let h = lines t s before in record { call = call; answer = answered t (current s h) call } ∷ h
+unfoldable pub lines : Machine → Table → State → List Call → List Line
+lines m t s [] = []
+lines m t s (call ∷ before) = let h = lines m t s before in record { call = call; answer = answered m t (current s h) call } ∷ h
 
 -- the state after them
-abbrev pub stateAfter : Table → State → List Call → State
-stateAfter t s calls = current s (lines t s calls)
+abbrev pub stateAfter : Machine → Table → State → List Call → State
+stateAfter m t s calls = current s (lines m t s calls)
 
 -- where a history starts: fresh, at a tick
-abbrev pub start : Table → ℕ → State
-start t now = fresh t (tick now) .state
+abbrev pub start : Machine → Table → ℕ → State
+start m t now = m .fresh t (tick now) .state
 
 -- ---- what is counted in the lines since the job at k was taken on. Past its end they run on with the position's next job; nothing is read off them there.
 

@@ -25,6 +25,7 @@ use Rattle.choice.proofs.Laws.Ready.{Ready, blocked-tells, blocked-holds, runs-
 use Rattle.choice.proofs.Laws.Runner.{named, runner-blocked, runner-free}
 use Rattle.state.specs.declared.Runner.the-variants as Runs
 use Rattle.consistency.proofs.Laws.Facts.{MarkFits}
+use Rattle.promise.specs.History.{written}
 use Rattle.promise.specs.Promise.{Passed}
 use Rattle.promise.proofs.Core.Choice as Core
 use Rattle.promise.proofs.Core.View.{Lawful}
@@ -45,7 +46,7 @@ further : (now d e j k : ℕ) → j < 256 → k < 256 → place now d j ≤ plac
 further now d e j k l m h = omega (arith, place-distance now d j l, place-distance now e k m)
 
 -- some job is pending: who runs is at `at`, top at `first`
-module _ {t : Table} {passed : Passed t} {s : State} (good : Good passed s) (some : top s < noPlace) where
+module _ {t : Table} {passed : Passed written t} {s : State} (good : Good passed s) (some : top s < noPlace) where
   abbrev ready : Ready t s
   ready = is-ready good
 

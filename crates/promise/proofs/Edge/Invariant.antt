@@ -22,6 +22,7 @@ use Rattle.consistency.specs.Consistency.{consistent}
 use Rattle.machine.specs.Machine.{midTick}
 use Rattle.consistency.proofs.Laws.Facts.{Unchanged, Consistent, consistent-tells, consistent-holds, fresh-consistent}
 use Rattle.consistency.proofs.Laws.Middle.{ready}
+use Rattle.promise.specs.History.{written}
 use Rattle.promise.specs.Promise.{Passed}
 use Rattle.promise.proofs.Core.Tasks.{Fits}
 use Rattle.promise.proofs.Core.View.{Lawful, Nearer, Midway, Between, fresh}
@@ -42,7 +43,7 @@ consistent-stands t s c long now = record {
     past k l (yes h) = c .past k l h
     past k l (no h) = no-more s k long h
 
-module _ {t : Table} (passed : Passed t) where
+module _ {t : Table} (passed : Passed written t) where
   pub passes : Admitted t
   passes = admitted t (passed .verdict)
 
@@ -87,7 +88,7 @@ module _ {t : Table} (passed : Passed t) where
         (fresh (tasks t) (view t fresh-state) (sees fresh-stands) nobody)
 
 -- a good state is consistent
-module _ {t : Table} {passed : Passed t} {s : State} (good : Good passed s) where
+module _ {t : Table} {passed : Passed written t} {s : State} (good : Good passed s) where
   facts : Consistent t s
   facts = record {
     passes = passed .verdict;

@@ -34,7 +34,7 @@ use Rattle.report.proofs.Laws.Jobs.{Fate, done, spent, stopped, goes, settled-i
 use Rattle.report.proofs.Laws.Answers.{outcome}
 use Rattle.machine.specs.Machine.{releasedAt}
 use Rattle.machine.proofs.Laws.Calls.{released-job, released-others}
-use Rattle.promise.specs.History.{Call, lines, start}
+use Rattle.promise.specs.History.{written, Call, lines, start}
 use Rattle.promise.specs.Promise.{Passed}
 use Rattle.promise.proofs.Edge.Choice as Chosen
 use Rattle.promise.proofs.Edge.Invariant.{some-top, passes, Good, is-ready, sees}
@@ -49,7 +49,7 @@ NoneBehind s = (m : Place) → s .mark ≡ At m → (k : ℕ) → holdsAny (jobA
 no-mark : (s : State) → s .mark ≡ Absent → NoneBehind s
 no-mark s e m f = absurd (false≢true (ap marked (sym e ∙ f)))
 
-module _ {t : Table} {passed : Passed t} {s : State} (good : Good passed s) (last : NoneBehind s) where
+module _ {t : Table} {passed : Passed written t} {s : State} (good : Good passed s) (last : NoneBehind s) where
   -- who holds something is pending, at one of 16 positions
   pending : (k : ℕ) → holdsAny (jobAt s k .held) ≡ true → jobAt s k .pending ≡ true
   pending k h = let w = sees passed (good .stands) in w .started-pending k (w .holds-started k h)
@@ -180,10 +180,10 @@ module _ {t : Table} {passed : Passed t} {s : State} (good : Good passed s) (las
   kept call a (idles c h r f e) = subst (λ (b : Answer). NoneBehind (b .state)) (sym e) (λ m q k x. absurd (f k (pending k (sym (ap (λ (j : Job). holdsAny (j .held)) (closed-at s (s .jobs) k)) ∙ x))))
   kept call a (runs p said c h r l f e) = subst (λ (b : Answer). NoneBehind (b .state)) (sym e) (on-tick h p said r f)
 
-module _ {t : Table} (passed : Passed t) (now : ℕ) (small : now < 2 ^ 32) where
+module _ {t : Table} (passed : Passed written t) (now : ℕ) (small : now < 2 ^ 32) where
   none-behind : (calls : List Call) → NoneBehind (at passed now small calls)
   unfolding lines
-  none-behind [] = no-mark (start t now) (ap (λ (s : State). s .mark) (start-is passed now small ∙ empty-is (tick now)))
+  none-behind [] = no-mark (start written t now) (ap (λ (s : State). s .mark) (start-is passed now small ∙ empty-is (tick now)))
   none-behind (call ∷ before) = kept (at-good passed now small before) (none-behind before) call _ (made passed now small before call)
 
   -- so "the last in order among the old mark and those holders" is the old mark, where one stands

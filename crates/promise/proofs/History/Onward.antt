@@ -28,7 +28,7 @@ use Rattle.report.proofs.Laws.Jobs.{settled-is, closed-set-same, closed-set-oth
 use Rattle.report.proofs.Laws.Answers.{outcome, taken-answer}
 use Rattle.machine.specs.Machine.{released, releasedAt, chosen}
 use Rattle.machine.proofs.Laws.Calls.{released-job, released-others}
-use Rattle.promise.specs.History.{ticksClosed, Call, release, choose, report, Line, isReport, isAt, stepsGiven, section, hasEnded}
+use Rattle.promise.specs.History.{written, ticksClosed, Call, release, choose, report, Line, isReport, isAt, stepsGiven, section, hasEnded}
 use Rattle.promise.specs.Promise.{Passed}
 use Rattle.promise.proofs.Edge.Choice as Chosen
 use Rattle.promise.proofs.Edge.View.{below-16}
@@ -37,7 +37,7 @@ use Rattle.promise.proofs.Keep.Made.{Made, refused, takes-on, chooses, 
 use Rattle.promise.proofs.History.Tells.{Tells, Onward, quiet, foreign, no-number}
 use Rattle.promise.proofs.History.Own.{own-tick}
 
-module _ {t : Table} {passed : Passed t} {s : State} (good : Good passed s) (k : ℕ) (h : List Line) (w : Tells t s k h) where
+module _ {t : Table} {passed : Passed written t} {s : State} (good : Good passed s) (k : ℕ) (h : List Line) (w : Tells t s k h) where
   below : k < 16
   below = below-16 (passes passed) (good .stands) k (w .pending)
 
@@ -99,7 +99,7 @@ module _ {t : Table} {passed : Passed t} {s : State} (good : Good passed s) (k :
   onward call a (runs p said c h r l f e) = made-as c e (on-tick said p r (ℕ-discrete k p))
 
 -- a release that is taken begins it
-module _ {t : Table} {passed : Passed t} {s : State} (good : Good passed s) (k : ℕ) (inside : k < t .count) where
+module _ {t : Table} {passed : Passed written t} {s : State} (good : Good passed s) (k : ℕ) (inside : k < t .count) where
   pub begins : Tells t (releasedAt t s k) k []
   unfolding ticksClosed stepsGiven section hasEnded
   begins =

@@ -18,7 +18,7 @@ use Rattle.choice.proofs.Laws.Choice as Law
 use Rattle.report.proofs.Laws.Jobs.{closed-at, closed-set-other}
 use Rattle.report.proofs.Laws.Answers.{outcome}
 use Rattle.machine.proofs.Laws.Calls.{released-others}
-use Rattle.promise.specs.History.{Call, release, answered, lines, stateAfter}
+use Rattle.promise.specs.History.{written, Call, release, answered, lines, stateAfter}
 use Rattle.promise.specs.Promise.{Passed, TakenOn, stateTaken, since}
 use Rattle.promise.proofs.Edge.Choice as Chosen
 use Rattle.promise.proofs.Edge.Invariant.{Good}
@@ -30,7 +30,7 @@ use Rattle.promise.proofs.History.Onward.{onward}
 use Rattle.promise.proofs.History.Start.{start-is, at, at-good, made, begun}
 
 -- a job that is pending after a call was so before, or the call took it on
-module _ {t : Table} {passed : Passed t} {s : State} (good : Good passed s) (k : ℕ) where
+module _ {t : Table} {passed : Passed written t} {s : State} (good : Good passed s) (k : ℕ) where
   abbrev Was : Call → Answer → Type 0
   Was call a = (jobAt s k .pending ≡ true) ⊎ ((call ≡ release k) × (a .number ≡ 0))
 
@@ -56,15 +56,15 @@ module _ {t : Table} {passed : Passed t} {s : State} (good : Good passed s) (k :
       go (yes z) = inl (ap (λ (i : ℕ). jobAt s i .pending) z ∙ f)
       go (no z) = was-same call a (ap (λ (b : Answer). jobAt (b .state) k) e ∙ closed-set-other s q (outcome t s (turn t s) q said .job) k z) refl p
 
-module _ {t : Table} (passed : Passed t) (now : ℕ) (small : now < 2 ^ 32) (k : ℕ) where
+module _ {t : Table} (passed : Passed written t) (now : ℕ) (small : now < 2 ^ 32) (k : ℕ) where
   -- a pending job was taken on, and the lines since tell of it
   pub record Whose (calls : List Call) : Type 0 where
     pub before : List Call
     pub later : List Call
     pub split : calls ≡ later ++ (release k ∷ before)
-    pub zero : TakenOn t now before k
-    pub same : stateAfter t (stateTaken t now before k) later ≡ at passed now small calls
-    pub tells : Tells t (at passed now small calls) k (since t now before k later)
+    pub zero : TakenOn written t now before k
+    pub same : stateAfter written t (stateTaken written t now before k) later ≡ at passed now small calls
+    pub tells : Tells t (at passed now small calls) k (since written t now before k later)
 
   pub whose : (calls : List Call) → jobAt (at passed now small calls) k .pending ≡ true → Whose calls
   unfolding lines
@@ -78,7 +78,7 @@ module _ {t : Table} (passed : Passed t) (now : ℕ) (small : now < 2 ^ 32) (k :
       good = at-good passed now small earlier
 
       a : Answer
-      a = answered t s call
+      a = answered written t s call
 
       go : (jobAt s k .pending ≡ true) ⊎ ((call ≡ release k) × (a .number ≡ 0)) → (jobAt s k .pending ≡ true → Whose earlier) → Whose (call ∷ earlier)
       go (inr w) older = record {
@@ -90,22 +90,22 @@ module _ {t : Table} (passed : Passed t) (now : ℕ) (small : now < 2 ^ 32) (k :
         tells = subst (λ (z : State). Tells t z k []) same (begun passed now small earlier k zero);
       }
         where
-          zero : TakenOn t now earlier k
-          zero = ap (λ (c : Call). answered t s c .number) (sym (w .0)) ∙ w .1
+          zero : TakenOn written t now earlier k
+          zero = ap (λ (c : Call). answered written t s c .number) (sym (w .0)) ∙ w .1
 
-          same : stateTaken t now earlier k ≡ a .state
-          same = ap (λ (c : Call). answered t s c .state) (sym (w .0))
+          same : stateTaken written t now earlier k ≡ a .state
+          same = ap (λ (c : Call). answered written t s c .state) (sym (w .0))
       go (inl q) older =
           let o : Whose earlier = older q in
-          on o (onward good k (since t now (o .before) k (o .later)) (o .tells) call a (made passed now small earlier call))
+          on o (onward good k (since written t now (o .before) k (o .later)) (o .tells) call a (made passed now small earlier call))
         where
-          on : (o : Whose earlier) → Onward t k (since t now (o .before) k (o .later)) call a → Whose (call ∷ earlier)
+          on : (o : Whose earlier) → Onward t k (since written t now (o .before) k (o .later)) call a → Whose (call ∷ earlier)
           on o (inr x) = absurd (false≢true (sym (x .1) ∙ p))
           on o (inl x) = record {
             before = o .before;
             later = call ∷ o .later;
             split = ap (λ (l : List Call). call ∷ l) (o .split);
             zero = o .zero;
-            same = ap (λ (z : State). answered t z call .state) (o .same);
-            tells = subst (λ (z : State). Tells t (a .state) k (line call (answered t z call) ∷ since t now (o .before) k (o .later))) (sym (o .same)) x;
+            same = ap (λ (z : State). answered written t z call .state) (o .same);
+            tells = subst (λ (z : State). Tells t (a .state) k (line call (answered written t z call) ∷ since written t now (o .before) k (o .later))) (sym (o .same)) x;
           }

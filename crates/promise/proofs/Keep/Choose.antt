@@ -25,7 +25,7 @@ use Rattle.consistency.proofs.Laws.Facts.{Unchanged}
 use Rattle.consistency.proofs.Laws.Middle.{same-again}
 use Rattle.machine.specs.Machine.{midTick, chosen}
 use Rattle.machine.proofs.Laws.Calls as Calls
-use Rattle.promise.specs.History.{choose, answered}
+use Rattle.promise.specs.History.{written, choose, answered}
 use Rattle.promise.specs.Promise.{Passed}
 use Rattle.promise.proofs.Core.Choice as CoreChoice
 use Rattle.promise.proofs.Core.View.{Midway, fresh}
@@ -34,7 +34,7 @@ use Rattle.promise.proofs.Edge.Choice as Chosen
 use Rattle.promise.proofs.Edge.Invariant.{some-top, passes, Good, sees, is-ready}
 use Rattle.promise.proofs.Keep.Made.{chooses, Next, refuses, steady, middle, between}
 
-module _ {t : Table} {passed : Passed t} {s : State} (good : Good passed s) where
+module _ {t : Table} {passed : Passed written t} {s : State} (good : Good passed s) where
   -- in mid-tick the state is what the choice made of it
   abbrev pub picked : State
   picked = Chosen.chosenState t s
@@ -124,14 +124,14 @@ module _ {t : Table} {passed : Passed t} {s : State} (good : Good passed s) wher
         (subst (λ (x : State). Midway (tasks t) (view t x)) (sym idle-is)
         (fresh (tasks t) (view t idle-state) (sees passed idle-stands) nobody-pending .midway))
 
-  pub keep-choose : Next good choose (answered t s choose)
+  pub keep-choose : Next good choose (answered written t s choose)
   keep-choose = go (s .half) refl
     where
       good-pick : Dec (top s < noPlace) → Good passed picked
       good-pick (yes l) = picked-good l
       good-pick (no l) = idle-good (omega arith)
 
-      go : (h : Half) → s .half ≡ h → Next good choose (answered t s choose)
+      go : (h : Half) → s .half ≡ h → Next good choose (answered written t s choose)
       go Second h = refuses good choose _ 11 (omega arith) (Calls.choose-11 t s (steady good) (middle good h))
       go First h =
           rw (Calls.choose-runs t s (steady good) (between good h))

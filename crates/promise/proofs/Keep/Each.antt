@@ -14,7 +14,7 @@ use Rattle.state.specs.declared.Runner.the-variants as Runs
 use Rattle.state.specs.declared.State.{State}
 use Rattle.choice.specs.Choice.{turn}
 use Rattle.machine.proofs.Laws.Calls as Calls
-use Rattle.promise.specs.History.{Call, release, choose, report, answered}
+use Rattle.promise.specs.History.{written, Call, release, choose, report, answered}
 use Rattle.promise.specs.Promise.{Passed}
 use Rattle.promise.proofs.Edge.Invariant.{Good}
 use Rattle.promise.proofs.Keep.Made.{Next, refuses, steady, between}
@@ -23,25 +23,25 @@ use Rattle.promise.proofs.Keep.Choose.{keep-choose}
 use Rattle.promise.proofs.Keep.Idle.{idle-goes-on, keep-idle}
 use Rattle.promise.proofs.Keep.Run.{run-goes-on, keep-run}
 
-module _ {t : Table} {passed : Passed t} {s : State} (good : Good passed s) where
-  keep-report : (said : Report) → Next good (report said) (answered t s (report said))
+module _ {t : Table} {passed : Passed written t} {s : State} (good : Good passed s) where
+  keep-report : (said : Report) → Next good (report said) (answered written t s (report said))
   keep-report said = go (s .half) refl (turn t s .runner) refl
     where
-      go : (h : Half) → s .half ≡ h → (r : Runner) → turn t s .runner ≡ r → Next good (report said) (answered t s (report said))
+      go : (h : Half) → s .half ≡ h → (r : Runner) → turn t s .runner ≡ r → Next good (report said) (answered written t s (report said))
       go First h r e = refuses good (report said) _ 11 (omega arith) (Calls.report-11 t s (steady good) said (between good h))
       go Second h Runs.Nobody e = keep-idle good h e said
       go Second h (Runs.Job p) e = keep-run good h p e said
 
   -- at every place a tick can be begun, or closed
-  pub goes-on : (answered t s choose .number ≡ 0) ⊎ (answered t s (report CarryOn) .number ≡ 0)
+  pub goes-on : (answered written t s choose .number ≡ 0) ⊎ (answered written t s (report CarryOn) .number ≡ 0)
   goes-on = go (s .half) refl (turn t s .runner) refl
     where
-      go : (h : Half) → s .half ≡ h → (r : Runner) → turn t s .runner ≡ r → (answered t s choose .number ≡ 0) ⊎ (answered t s (report CarryOn) .number ≡ 0)
+      go : (h : Half) → s .half ≡ h → (r : Runner) → turn t s .runner ≡ r → (answered written t s choose .number ≡ 0) ⊎ (answered written t s (report CarryOn) .number ≡ 0)
       go First h r e = inl (ap (λ (a : Answer). a .number) (Calls.choose-runs t s (steady good) (between good h)))
       go Second h Runs.Nobody e = inr (idle-goes-on good h e)
       go Second h (Runs.Job p) e = inr (run-goes-on good h p e)
 
-  pub keep : (call : Call) → Next good call (answered t s call)
+  pub keep : (call : Call) → Next good call (answered written t s call)
   keep (release p) = keep-release good p
   keep choose = keep-choose good
   keep (report said) = keep-report said

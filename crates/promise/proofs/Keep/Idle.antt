@@ -32,7 +32,7 @@ use Rattle.report.proofs.Laws.Answers.{taken-answer, in-time, idle-closes, idle
 use Rattle.consistency.proofs.Laws.Facts.{Unchanged}
 use Rattle.consistency.proofs.Laws.Middle.{again-same}
 use Rattle.machine.proofs.Laws.Calls as Calls
-use Rattle.promise.specs.History.{report, answered}
+use Rattle.promise.specs.History.{written, report, answered}
 use Rattle.promise.specs.Promise.{Passed}
 use Rattle.promise.proofs.Core.View.{fresh}
 use Rattle.promise.proofs.Edge.View.{tasks, marked, view, Stands}
@@ -41,7 +41,7 @@ use Rattle.promise.proofs.Edge.Tick.{waited-stands, next-fits}
 use Rattle.promise.proofs.Keep.Made.{idles, Next, refuses, steady, middle}
 use Rattle.promise.proofs.Keep.Choose.{picked, picked-is, nobody-pending}
 
-module _ {t : Table} {passed : Passed t} {s : State} (good : Good passed s) (h : s .half ≡ Second) where
+module _ {t : Table} {passed : Passed written t} {s : State} (good : Good passed s) (h : s .half ≡ Second) where
   pub same : Unchanged t s
   same = good .second h
 
@@ -88,18 +88,18 @@ module _ {t : Table} {passed : Passed t} {s : State} (good : Good passed s) (h :
         rests passed passed-by passed-stands refl refl
         (fresh (tasks t) (view t passed-by) (sees passed passed-stands) passed-nobody)
 
-    answer : answered t s (report CarryOn) ≡ taken-answer s (s .jobs) (turn t s) 0
+    answer : answered written t s (report CarryOn) ≡ taken-answer s (s .jobs) (turn t s) 0
     answer =
         Calls.report-runs t s (steady good) CarryOn (middle good h)
         ∙ idle-closes t s idle (in-time passed-by (λ k l p. absurd (passed-nobody k p)))
 
     -- the tick can be closed
-    pub idle-goes-on : answered t s (report CarryOn) .number ≡ 0
+    pub idle-goes-on : answered written t s (report CarryOn) .number ≡ 0
     idle-goes-on = ap (λ (a : Answer). a .number) answer
 
-    pub keep-idle : (said : Report) → Next good (report said) (answered t s (report said))
+    pub keep-idle : (said : Report) → Next good (report said) (answered written t s (report said))
     keep-idle said = go said (idle-objects t s idle said)
       where
-        go : (said : Report) → (said ≡ CarryOn) ⊎ (AtReport.report t s said ≡ bare 14 s) → Next good (report said) (answered t s (report said))
+        go : (said : Report) → (said ≡ CarryOn) ⊎ (AtReport.report t s said ≡ bare 14 s) → Next good (report said) (answered written t s (report said))
         go said (inr e) = refuses good (report said) _ 14 (omega arith) (Calls.report-runs t s (steady good) said (middle good h) ∙ e)
         go said (inl e) = rw (e, answer) record { kept = passed-good; made = idles refl h idle (nobody-pending good none) refl }

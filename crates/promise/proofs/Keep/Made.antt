@@ -18,7 +18,7 @@ use Rattle.choice.specs.Choice.{turn, choice}
 use Rattle.report.proofs.Laws.Answers.{outcome, taken-answer}
 use Rattle.consistency.specs.Consistency.{consistent}
 use Rattle.machine.specs.Machine.{midTick, releasedAt, chosen}
-use Rattle.promise.specs.History.{Call, release, choose, report}
+use Rattle.promise.specs.History.{written, Call, release, choose, report}
 use Rattle.promise.specs.Promise.{Passed}
 use Rattle.promise.proofs.Edge.Invariant.{Good, is-consistent}
 
@@ -31,7 +31,7 @@ pub data Made (t : Table) (s : State) (call : Call) (a : Answer) : Type 0 where
   runs : (p : ℕ) (said : Report) → call ≡ report said → s .half ≡ Second → turn t s .runner ≡ Runs.Job p → p < t .count → jobAt s p .pending ≡ true
       → a ≡ taken-answer s (set (s .jobs) p (outcome t s (turn t s) p said .job)) (turn t s) (outcome t s (turn t s) p said .ending) → Made t s call a
 
-module _ {t : Table} {passed : Passed t} {s : State} (good : Good passed s) where
+module _ {t : Table} {passed : Passed written t} {s : State} (good : Good passed s) where
   -- what a call leads to
   pub record Next (call : Call) (a : Answer) : Type 0 where
     pub kept : Good passed (a .state)

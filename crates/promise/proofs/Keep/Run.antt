@@ -32,7 +32,7 @@ use Rattle.report.proofs.Laws.Answers.{taken-answer, Fair, Objection, holding, 
 use Rattle.consistency.proofs.Laws.Held.{holds-tells}
 use Rattle.consistency.proofs.Laws.Jobs.{takes-one-of-8}
 use Rattle.machine.proofs.Laws.Calls as Calls
-use Rattle.promise.specs.History.{report, answered}
+use Rattle.promise.specs.History.{written, report, answered}
 use Rattle.promise.specs.Promise.{Passed}
 use Rattle.promise.proofs.Core.Choice as CoreChoice
 use Rattle.promise.proofs.Core.Stack as CoreStack
@@ -47,7 +47,7 @@ use Rattle.promise.proofs.Keep.Made.{runs, Next, refuses, steady, middl
 use Rattle.promise.proofs.Keep.Choose.{at, first, chosen-as}
 use Rattle.promise.proofs.Keep.Idle.{same, again}
 
-module _ {t : Table} {passed : Passed t} {s : State} (good : Good passed s) (h : s .half ≡ Second) where
+module _ {t : Table} {passed : Passed written t} {s : State} (good : Good passed s) (h : s .half ≡ Second) where
   -- the job at p runs
   module _ (p : ℕ) (runs-p : turn t s .runner ≡ Runs.Job p) where
     some : top s < noPlace
@@ -154,24 +154,24 @@ module _ {t : Table} {passed : Passed t} {s : State} (good : Good passed s) (h :
     number said = objection (taskAt t p) (jobAt s p) (heldResources s) said
 
     answer : (said : Report) → number said ≡ 0 → (fair : Fair (taskAt t p) (jobAt s p) (heldResources s) said)
-        → answered t s (report said) ≡ taken-answer s (set (s .jobs) p (outcome t s (turn t s) p said .job)) (turn t s) (outcome t s (turn t s) p said .ending)
+        → answered written t s (report said) ≡ taken-answer s (set (s .jobs) p (outcome t s (turn t s) p said .job)) (turn t s) (outcome t s (turn t s) p said .ending)
     answer said e fair =
         Calls.report-runs t s (steady good) said (middle good h) ∙ run-closes t s p runs-p said e (next-in-time said fair)
 
     -- the tick can be closed
-    pub run-goes-on : answered t s (report CarryOn) .number ≡ 0
+    pub run-goes-on : answered written t s (report CarryOn) .number ≡ 0
     run-goes-on = let w = carrying (taskAt t p) (jobAt s p) (heldResources s) in ap (λ (a : Answer). a .number) (answer CarryOn (w .0) (w .1))
 
-    pub keep-run : (said : Report) → Next good (report said) (answered t s (report said))
+    pub keep-run : (said : Report) → Next good (report said) (answered written t s (report said))
     keep-run said = go (objection-is (taskAt t p) (jobAt s p) (heldResources s) said)
       where
-        objects : (10 ≤ number said) × (number said ≤ 14) → Next good (report said) (answered t s (report said))
+        objects : (10 ≤ number said) × (number said ≤ 14) → Next good (report said) (answered written t s (report said))
         objects l =
             refuses good (report said) _ (number said) l
             (Calls.report-runs t s (steady good) said (middle good h) ∙ run-objects t s p runs-p said (λ e. omega (arith, l)))
 
         go : ((number said ≡ 0) × Fair (taskAt t p) (jobAt s p) (heldResources s) said) ⊎ Objection (taskAt t p) (jobAt s p) (heldResources s) (number said)
-            → Next good (report said) (answered t s (report said))
+            → Next good (report said) (answered written t s (report said))
         go (inr (holding e)) = objects (omega arith)
         go (inr (never e)) = objects (omega arith)
         go (inr (taken r e l f n)) = absurd (none-holds r e l f)
