@@ -21,11 +21,18 @@ use Rattle.records.specs.Records as Records
 use Rattle.records.specs.Contents as Contents
 use Rattle.lines.specs.Lines as Lines
 use Rattle.listing.specs.Listing as Listing
-use Rattle.ponds.specs.Ponds.{p5, ponds, Worked}
+use Rattle.ponds.specs.Ponds.{two, p5, ponds, Worked}
 use Rattle.ponds.specs.Runs as Runs
+use Rattle.ponds.specs.FirstTick.{FirstTick}
 use Rattle.ponds.specs.Histories.{calls, refused, P5, rollOver, RollOver}
 use Rattle.ponds.specs.Document003 as Document003
 use Rattle.ponds.specs.Broken.{Broken}
+
+-- each task of a table has 8 limits, here one by one
+pub two-limits : (k : ℕ) → k < 2 → length (taskAt two k .limits) ≡ 8
+two-limits zero l = refl
+two-limits (suc zero) l = refl
+two-limits (suc (suc k)) l = absurd (omega arith)
 
 p5-limits : (k : ℕ) → k < 4 → length (taskAt p5 k .limits) ≡ 8
 p5-limits zero l = refl
@@ -40,24 +47,29 @@ rollOver-limits (suc zero) l = refl
 rollOver-limits (suc (suc zero)) l = refl
 rollOver-limits (suc (suc (suc k))) l = absurd (omega arith)
 
-computed : Worked ponds × P5 × RollOver × Document003.Misses × Broken
+computed : Worked ponds × FirstTick × P5 × RollOver × Document003.Misses × Broken
 unfolding given Up Clock.after Clock.distance over sum largest smallest some all lowest first listed set has with takes users ceiling ceilings ticksInRound independentSum B synchronizationSum countInRange settingInRange inRange fault faultAt faulty overloaded sums verdict empty passes fresh place firstInOrder lastHolder heldResources blocked runner shortestAhead fastest inherited markAt rules turn choice Report.late Report.finished Report.reportRun Report.report notPendingFits pendingFits startedFits waitFits jobFits unused positionFits positionsFit unchanged consistent Machine.release Machine.choose Machine.report lines ticksClosed stepsGiven section endsAt hasEnded Bytes.recordAt Bytes.word Bytes.long Bytes.zeros Records.sized Records.isSetting Records.isTask Records.eventFits Records.isEvent Records.taskCount Records.wellFormed Contents.task Contents.taskRecord Contents.table Contents.start Contents.report Contents.event Lines.digits Lines.decimal Lines.field Lines.runner Lines.mode Lines.text Listing.step Listing.more Listing.page Listing.listed Listing.listing Runs.after Runs.lastLine calls refused Document003.blocking Document003.rules Document003.turn Document003.slow
 computed = (
   (refl, (refl, (refl, (refl, (refl, (refl, (refl, (refl, (refl, (refl, (refl, (refl, (refl, (refl, (refl, (refl, (refl, tt))))))))))))))))),
+  record { passes = refl; takenOn = refl; notPending = refl; pending = refl; chooses = refl; runs = refl; slowly = refl; notStarted = refl; started = refl; runsOther = refl; closes = refl; ran = refl; gave = refl; goesOn = refl; unused = refl; used = refl },
   record { passed = record { verdict = refl; limits = p5-limits }; tick = refl; taken = refl; waits = refl; runs = refl; ends = refl; refusals = refl },
   record { passed = record { verdict = refl; limits = rollOver-limits }; position2 = refl; takes = refl; takenSection = refl; position0 = refl; deadline = refl; isTop = refl; isBlocked = refl; inherits = refl; speeds = refl; cutAtLimit = refl; waits = refl; rolls = refl; cutAtBudget = refl },
   record { stays = refl; differs = refl; before = refl; arrives = refl; deadline = refl; refusals = refl; fast = refl; waits = refl; runs = refl; misses = refl; pending = refl; otherOrder = refl; otherEnds = refl },
-  record { rule2 = (refl, refl); rule1 = (refl, refl); rule4 = (refl, refl); unmarked = refl; marked = refl; blocked = (refl, refl); ceiling = refl; refusedByB = refl; sumsFit = (omega arith, omega arith); late = refl; budget = (refl, refl); limit = (refl, refl) },
+  record { rule2 = (refl, refl); rule1 = (refl, refl); rule4 = (refl, refl); unmarked = refl; marked = refl; blocked = (refl, refl); ceiling = refl; refusedByB = refl; sumsFit = (omega arith, omega arith); late = refl; budget = (refl, refl); limit = (refl, refl); taken = refl; lost = refl; inVain = refl },
 )
 
 -- "P1 to P10 are shown of the rules by one statement over one list"
 pub worked : Worked ponds
 worked = computed .0
 
+-- what the calls do in a tick
+pub first-tick : FirstTick
+first-tick = computed .1
+
 -- what the promise speaks of does happen, and document 003's rule does not keep it
 pub shown : P5 × RollOver × Document003.Misses
-shown = (computed .1, computed .2, computed .3)
+shown = (computed .2, computed .3, computed .4)
 
 -- nor do wrong rules
 pub broken : Broken
-broken = computed .4
+broken = computed .5

@@ -1,17 +1,18 @@
 -- Wrong rules, and for each a table with a short history that breaks the promise there. Under 01's rules no call of it is refused; one table, that of the test without B, they do not pass.
 use Prim.Native.Nat.{ℕ, _+_, max, _≤_}
-use mathlib.Core.{Path._≡_, Bool.Bool, Bool.false, Bool.not, Bool._&&_, Bool.cond, List.List, List.[], List._∷_, List._++_}
+use mathlib.Core.{Path._≡_, Bool.Bool, Bool.false, Bool.not, Bool._&&_, Bool.cond, List.List, List.[], List._∷_, List._++_, List.map}
 use lib.{ListN.getD, ListN.set, Dec.ltb, Dec.eqb}
 use Rattle.units.specs.{Amounts.ticks, Amounts.steps, Amounts.given, Folds.some, Folds.sum}
 use Rattle.table.specs.{declared.Task.Task, declared.Table.Table, Table.taskAt, Table.D, Table.C, Table.I, Table.S, Table.ceilings}
 use Rattle.admission.specs.Admission.{ticksInRound, independentSum}
-use Rattle.state.specs.{declared.Job.Job, declared.Held.Held, declared.Held.the-variants.Nothing, declared.Held.the-variants.In, declared.Report.Report, declared.Report.the-variants.Take, State.jobAt, Order.positionOf, Order.isStarted, Order.firstInOrder, Order.lastHolder}
+use Rattle.state.specs.{declared.Job.Job, declared.State.State, declared.Held.Held, declared.Held.the-variants.Nothing, declared.Held.the-variants.In, declared.Report.Report, declared.Report.the-variants.Take, State.jobAt, Order.positionOf, Order.isStarted, Order.firstInOrder, Order.lastHolder}
 use Rattle.choice.specs.{Choice.top, Choice.runner, Choice.oldMark, Choice.markAt, Choice.synchronized, Choice.rule1, Choice.noHolderBehind, Choice.rules, Choice.turn}
 use Rattle.report.specs.Report as Report
 use Rattle.consistency.specs.Consistency.{markFits}
 use Rattle.machine.specs.Machine.{releasedAt}
-use Rattle.promise.specs.History.{Machine, written, Line, lines, stateAfter, start}
-use Rattle.ponds.specs.Ponds.{task, table, said}
+use Rattle.promise.specs.History.{Machine, written, Line, lines, stateAfter, start, hasEnded}
+use Rattle.promise.specs.Promise.{TakenOn, stateTaken, since}
+use Rattle.ponds.specs.Ponds.{task, table, two, said}
 use Rattle.records.specs.declared.Event.{Event}
 use Rattle.ponds.specs.Runs.{release, tick, carry}
 use Rattle.ponds.specs.Histories.{calls, refused}
@@ -76,6 +77,21 @@ abbrev pub pastLimit : Machine
 pastLimit = byEnding λ task said v j. let w = Report.worked task v j in
     cond (Report.atLimit task (w .held)) w (Report.settled task said w .job)
 
+-- every job ended by the first report, as by "one that ends jobs at the first tick and later only advances the count": then no job is there, and each tick closes idle
+abbrev pub withoutJobs : State → State
+withoutJobs s = record { tick = s .tick; jobs = map Report.ended (s .jobs); mark = s .mark; half = s .half; runner = s .runner }
+
+abbrev pub endingAtOnce : Machine
+endingAtOnce = record {
+  verdict = written .verdict;
+  fresh = written .fresh;
+  release = written .release;
+  choose = written .choose;
+  report = λ t s said.
+      let a = written .report t s said in
+      cond (eqb (a .number) 0) (record { number = 0; state = withoutJobs (a .state); runner = a .runner; mode = a .mode; speed = a .speed; ending = a .ending }) a;
+}
+
 -- ---- the histories
 
 -- position k is released and takes resource 0; then position 0 is released, and n ticks carry on
@@ -135,3 +151,7 @@ pub record Broken : Type 0 where
   -- the budget, and the section's limit, not enforced
   pub budget : (ends pastBudget shortBudget (release 0 ∷ carry 1) ≡ (16, 0)) × (ends written shortBudget (release 0 ∷ carry 1) ≡ (0, 0))
   pub limit : (ends pastLimit shortSection (takesThen 1 2) ≡ (16, 0)) × (ends written shortSection (takesThen 1 2) ≡ (0, 0))
+  -- a job of 01's listing is taken on, and after one tick is neither there nor ended, by what was given and said
+  pub taken : TakenOn endingAtOnce two 0 [] 1
+  pub lost : jobAt (stateAfter endingAtOnce two (stateTaken endingAtOnce two 0 [] 1) (calls (carry 1))) 1 .pending ≡ false
+  pub inVain : hasEnded two 1 (since endingAtOnce two 0 [] 1 (calls (carry 1))) ≡ false

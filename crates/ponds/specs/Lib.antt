@@ -5,3 +5,4 @@ pub mod Histories
 pub mod Variants
 pub mod Document003
 pub mod Broken
+pub mod FirstTick

@@ -1,0 +1,62 @@
+-- One result: "For each input, every public function has one result only that its promise allows, refusals and returned state counted".
+use mathlib.Core.Path.{_≡_}
+use contract.Lifetimes.{Lfts}
+use denote.Triple.Entry.{Args, Res}
+use denote.Triple.Clauses.{Ended, Lasts, AtExit, atExit}
+use Rattle.units.proofs as Units
+use Rattle.table.proofs as Table
+use Rattle.admission.proofs as Admission
+use Rattle.state.proofs as State
+use Rattle.chooser.proofs as Chooser
+use Rattle.report.proofs as Report
+use Rattle.consistency.proofs as Consistency
+use Rattle.machine.proofs as Machine
+use Rattle.records.proofs as Records
+use Rattle.lines.proofs as Lines
+use Rattle.listing.proofs as Listing
+
+-- A function's promise: what its contract says of the arguments, the result, and the parameters at exit.
+abbrev pub Promised : Ended → Type 1
+Promised T = (κs : Lfts (T .signature .lifetimes)) → Args (T .signature) κs → Res (T .signature) κs → AtExit T κs → Type 0
+
+-- Two results that it allows are one; and so are what stands at exit in two parameters, a lent slice among them.
+abbrev pub Single : (T : Ended) → Promised T → Type 0
+Single T P =
+    (κs : Lfts (T .signature .lifetimes)) (a : Args (T .signature) κs) (r s : Res (T .signature) κs) (v w : Lasts T κs a)
+    → P κs a r (atExit T κs a v) → P κs a s (atExit T κs a w) → (r ≡ s) × (atExit T κs a v ≡ atExit T κs a w)
+
+-- Every public function; `Learnt` is its contract, as the prover reads it and as its callers are handed it.
+pub record Singleness : Type 0 where
+  pub given : Single Units.Steps.given.ended Units.Steps.given.Reads.Learnt
+  pub up : Single Units.Steps.up.ended Units.Steps.up.Reads.Learnt
+  pub ahead : Single Units.Tick.ahead.ended Units.Tick.ahead.Reads.Learnt
+  pub after : Single Units.Tick.after.ended Units.Tick.after.Reads.Learnt
+  pub distance : Single Units.Tick.distance.ended Units.Tick.distance.Reads.Learnt
+  pub has : Single Units.sets.has.ended Units.sets.has.Reads.Learnt
+  pub with : Single Units.sets.with.ended Units.sets.with.Reads.Learnt
+  pub howMany : Single Units.sets.how_many.ended Units.sets.how_many.Reads.Learnt
+  pub lowest : Single Units.sets.lowest.ended Units.sets.lowest.Reads.Learnt
+  pub limit : Single Table.Task.limit.ended Table.Task.limit.Reads.Learnt
+  pub ceilings : Single Table.Table.ceilings.ended Table.Table.ceilings.Reads.Learnt
+  pub verdictOf : Single Admission.Verdict.of.ended Admission.Verdict.of.Reads.Learnt
+  pub number : Single Admission.Verdict.number.ended Admission.Verdict.number.Reads.Learnt
+  pub position : Single Admission.Verdict.position.ended Admission.Verdict.position.Reads.Learnt
+  pub fresh : Single State.State.fresh.ended State.State.fresh.Reads.Learnt
+  pub bare : Single State.Answer.bare.ended State.Answer.bare.Reads.Learnt
+  pub any : Single State.Held.any.ended State.Held.any.Reads.Learnt
+  pub join : Single State.Held.join.ended State.Held.join.Reads.Learnt
+  pub turnOf : Single Chooser.turn_of.ended Chooser.turn_of.Reads.Learnt
+  pub choice : Single Chooser.choose.ended Chooser.choose.Reads.Learnt
+  pub secondHalf : Single Report.report.ended Report.report.Reads.Learnt
+  pub consistent : Single Consistency.consistent.ended Consistency.consistent.Reads.Learnt
+  pub release : Single Machine.release.ended Machine.release.Reads.Learnt
+  pub choose : Single Machine.choose.ended Machine.choose.Reads.Learnt
+  pub report : Single Machine.report.ended Machine.report.Reads.Learnt
+  pub firstEvent : Single Records.first_event.ended Records.first_event.Reads.Learnt
+  pub eventCount : Single Records.event_count.ended Records.event_count.Reads.Learnt
+  pub wellFormed : Single Records.well_formed.ended Records.well_formed.Reads.Learnt
+  pub table : Single Records.table.ended Records.table.Reads.Learnt
+  pub start : Single Records.start.ended Records.start.Reads.Learnt
+  pub eventAt : Single Records.event_at.ended Records.event_at.Reads.Learnt
+  pub write : Single Lines.Line.write.ended Lines.Line.write.Reads.Learnt
+  pub list : Single Listing.list.ended Listing.list.Reads.Learnt
