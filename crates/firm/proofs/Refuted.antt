@@ -13,7 +13,7 @@ use Rattle.admission.specs.Admission.{answer}
 use Rattle.state.specs.{declared.State.State, declared.Report.the-variants.CarryOn, State.jobAt, State.fresh}
 use Rattle.promise.specs.History.{Machine, release, choose, report, lines, stateAfter, start, ticksClosed, hasEnded}
 use Rattle.promise.specs.Promise.{TakenOn, stateTaken, since, InTime}
-use Rattle.ponds.specs.Ponds.{two}
+use Rattle.ponds.specs.Tables.{two}
 use Rattle.ponds.specs.Runs.{carry}
 use Rattle.ponds.specs.Histories.{calls}
 use Rattle.ponds.specs.Broken.{endingAtOnce}

@@ -10,7 +10,7 @@ use Rattle.state.specs.declared.Runner.the-variants.{Job}
 use Rattle.report.specs.Report.{ended}
 use Rattle.promise.specs.History.{Machine, written, start}
 use Rattle.promise.specs.Promise.{Passed, TakenOn, InTime}
-use Rattle.ponds.specs.Ponds.{two}
+use Rattle.ponds.specs.Tables.{two}
 use Rattle.ponds.specs.Broken.{endingAtOnce}
 use Rattle.firm.specs.Machines.{Numbers, Choices, States}
 

@@ -4,7 +4,7 @@ use mathlib.Core.{Path._≡_, Bool.Bool, Bool.false, Bool.not, Bool._&&_, Bool.c
 use lib.{ListN.getD, ListN.set, Dec.ltb, Dec.eqb}
 use Rattle.units.specs.{Amounts.ticks, Amounts.steps, Amounts.given, Folds.some, Folds.sum}
 use Rattle.table.specs.{declared.Task.Task, declared.Table.Table, Table.taskAt, Table.D, Table.C, Table.I, Table.S, Table.ceilings}
-use Rattle.admission.specs.Admission.{ticksInRound, independentSum}
+use Rattle.admission.specs.Admission.{ticksInRound, independentSum, answer, verdict}
 use Rattle.state.specs.{declared.Job.Job, declared.State.State, declared.Held.Held, declared.Held.the-variants.Nothing, declared.Held.the-variants.In, declared.Report.Report, declared.Report.the-variants.Take, State.jobAt, Order.positionOf, Order.isStarted, Order.firstInOrder, Order.lastHolder}
 use Rattle.choice.specs.{Choice.top, Choice.runner, Choice.oldMark, Choice.markAt, Choice.synchronized, Choice.rule1, Choice.noHolderBehind, Choice.rules, Choice.turn}
 use Rattle.report.specs.Report as Report
@@ -12,7 +12,7 @@ use Rattle.consistency.specs.Consistency.{markFits}
 use Rattle.machine.specs.Machine.{releasedAt}
 use Rattle.promise.specs.History.{Machine, written, Line, lines, stateAfter, start, hasEnded}
 use Rattle.promise.specs.Promise.{TakenOn, stateTaken, since}
-use Rattle.ponds.specs.Ponds.{task, table, two, said}
+use Rattle.ponds.specs.Tables.{task, table, two}
 use Rattle.records.specs.declared.Event.{Event}
 use Rattle.ponds.specs.Runs.{release, tick, carry}
 use Rattle.ponds.specs.Histories.{calls, refused}
@@ -145,7 +145,7 @@ pub record Broken : Type 0 where
   pub blocked : (ends topRuns sharing sharingEvents ≡ (15, 0)) × (ends written sharing sharingEvents ≡ (0, 0))
   pub ceiling : ends strictly sharing sharingEvents ≡ (15, 0)
   -- B left out of the test: number 8 by B alone, and by 01's rules 16
-  pub refusedByB : said blocking ≡ 8 ∷ 0 ∷ []
+  pub refusedByB : answer (verdict blocking) ≡ (8, 0)
   pub sumsFit : (independentSum blocking ≤ 6) × (sum (λ k. ticksInRound (C blocking k) (S blocking k) 6 (D blocking k)) 2 ≤ 6)
   pub late : ends untested blocking (takesThen 1 2) ≡ (16, 0)
   -- the budget, and the section's limit, not enforced

@@ -14,7 +14,7 @@ use Rattle.promise.specs.Promise.{stateTaken, since}
 use Rattle.ponds.specs.Variants.{by}
 use Rattle.ponds.specs.Histories.{calls, told, ticked, counted, refused, before2, later2}
 use Rattle.ponds.specs.Runs as Runs
-use Rattle.ponds.specs.Ponds.{task, table, p5}
+use Rattle.ponds.specs.Tables.{task, table, p5}
 
 -- ---- its Figure 1. SYNC is where a mark stands.
 

@@ -1,12 +1,12 @@
 -- The first tick of 01's listing, call by call on the written rules: what is answered, and what has changed.
 use Prim.Native.Nat.{ℕ}
-use mathlib.Core.{Path._≡_, Bool.true, Bool.false, List.[], List._∷_}
+use mathlib.Core.{Path._≡_, Bool.true, Bool.false}
 use Rattle.units.specs.Amounts.{given}
 use Rattle.admission.specs.Admission.{answer}
 use Rattle.state.specs.{declared.State.State, declared.Answer.Answer, declared.Report.the-variants.CarryOn, State.jobAt}
 use Rattle.state.specs.declared.Runner.the-variants.{Job}
 use Rattle.promise.specs.History.{written, start}
-use Rattle.ponds.specs.Ponds.{two}
+use Rattle.ponds.specs.Tables.{two}
 
 abbrev pub before : State
 before = start written two 0

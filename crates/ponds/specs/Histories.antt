@@ -7,7 +7,7 @@ use Rattle.table.specs.{declared.Table.Table, Table.S}
 use Rattle.state.specs.{declared.State.State, declared.Answer.Answer, declared.Held.Held, declared.Held.the-variants.Nothing, declared.Held.the-variants.In, declared.Mode.Mode, declared.Mode.the-variants.Independent, declared.Mode.the-variants.Synchronization, declared.Report.Report, declared.Report.the-variants.CarryOn, declared.Report.the-variants.Take, declared.Runner.Runner, State.jobAt, Order.positionOf}
 use Rattle.state.specs.declared.Runner.the-variants.{Job}
 use Rattle.choice.specs.Choice.{top, blocked}
-use Rattle.ponds.specs.Ponds.{task, table, p5, p5Before, p5Later}
+use Rattle.ponds.specs.Tables.{task, table, p5, p5Before, p5Later}
 use Rattle.records.specs.declared.Event.{Event}
 use Rattle.records.specs.declared.Event.the-variants as Event
 use Rattle.ponds.specs.Runs.{release, tick, carry}

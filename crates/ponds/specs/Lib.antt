@@ -1,8 +1,9 @@
-pub mod Ponds
 pub mod Runs
+pub mod Tables
 pub mod Files
 pub mod Histories
 pub mod Variants
 pub mod Document003
-pub mod Broken
+pub mod Ponds
 pub mod FirstTick
+pub mod Broken
