@@ -1,13 +1,14 @@
--- The admission test, and the numbers 2 to 8.
+-- The admission test: which of the answers 0 and 2 to 8 a table gets.
 use Prim.Native.Nat.{ℕ, zero, suc, _+_, _*_, _/_, _%_}
 use mathlib.Core.Bool.{Bool, not, _&&_, cond}
 use lib.Dec.{ltb, leb, eqb}
 use Rattle.units.specs.Amounts.{Up, given}
 use Rattle.units.specs.Folds.{sum, largest, all, first}
+use Rattle.verdict.specs.declared.Verdict.{Verdict}
+use Rattle.verdict.specs.declared.Verdict.the-variants.{Passed, Count, Setting, Range, Divisor, Order, Independent, Synchronization}
+use Rattle.verdict.specs.Verdict.{answer}
 use Rattle.table.specs.declared.Task.{Task}
 use Rattle.table.specs.declared.Table.{Table}
-use Rattle.admission.specs.declared.Verdict.{Verdict}
-use Rattle.admission.specs.declared.Verdict.the-variants.{Passed, Count, Setting, Range, Divisor, Order, Independent, Synchronization}
 use Rattle.table.specs.Table.{taskAt, D, C, I, S, limit, ceiling}
 
 -- "Up(C, I) × (G/D)": the ticks that some work takes at some speed in a round, once in each D
@@ -25,17 +26,6 @@ B t i = largest (λ j. ltb (D t i) (D t j)) (λ j. largest (λ r. leb (ceiling t
 -- "Synchronization, for each position i: Up(B, S of i) × (G/D of i), plus the sum over positions 0 to i of Up(C, S) × (G/D)"
 unfoldable pub synchronizationSum : Table → ℕ → ℕ
 synchronizationSum t i = ticksInRound (B t i) (S t i) (t .round) (D t i) + sum (λ k. ticksInRound (C t k) (S t k) (t .round) (D t k)) (i + 1)
-
--- The number and the position of each answer: "Where no position is concerned the position returned is 0."
-abbrev pub answer : Verdict → ℕ × ℕ
-answer Passed = (0, 0)
-answer Count = (2, 0)
-answer Setting = (3, 0)
-answer (Range k) = (4, k)
-answer (Divisor k) = (5, k)
-answer (Order k) = (6, k)
-answer Independent = (7, 0)
-answer (Synchronization k) = (8, k)
 
 -- 2: "task count not 1 to 16"
 unfoldable pub countInRange : Table → Bool

@@ -1,86 +1,41 @@
 // The admission test: whether a table's deadlines can be kept.
 ghost use mathlib.Core.Path.{_≡_};
-ghost use Rattle.admission.specs.Admission.{answer, verdict};
+ghost use Rattle.admission.specs.Admission.{verdict};
 use table::Table;
+use verdict::Verdict;
 
 mod blocking;
 mod ranges;
 mod sums;
 
-// What the admission test finds, with the position where one is concerned.
-pub enum Verdict {
-    Passed,
-    Count,
-    Setting,
-    Range(usize),
-    Divisor(usize),
-    Order(usize),
-    Independent,
-    Synchronization(usize),
-}
-
-impl Verdict {
-    // The verdict of a table.
-    pub fn of(t: Table) -> Verdict
-        ensures { λ r. ⌜ r ≡ verdict t ⌝ }
-    {
-        if t.count < 1 {
-            return Verdict::Count;
-        }
-        if Table::TASKS < t.count {
-            return Verdict::Count;
-        }
-        if t.full < 1 {
-            return Verdict::Setting;
-        }
-        if Table::FULL < t.full {
-            return Verdict::Setting;
-        }
-        if t.round < 1 {
-            return Verdict::Setting;
-        }
-        if Table::ROUND < t.round {
-            return Verdict::Setting;
-        }
-        let fault = ranges::first_fault(t);
-        if fault.number() != 0 {
-            return fault;
-        }
-        if (t.round as u64) < sums::independent_sum(t) {
-            return Verdict::Independent;
-        }
-        sums::first_overload(t)
+// The verdict of a table.
+pub fn verdict_of(t: Table) -> Verdict
+    ensures { λ r. ⌜ r ≡ verdict t ⌝ }
+{
+    if t.count < 1 {
+        return Verdict::Count;
     }
-
-    // The number that document 01 gives it.
-    pub fn number(self) -> u8
-        ensures { λ r. ⌜ r ≡ answer self .0 ⌝ }
-    {
-        match self {
-            Verdict::Passed => 0,
-            Verdict::Count => 2,
-            Verdict::Setting => 3,
-            Verdict::Range(_) => 4,
-            Verdict::Divisor(_) => 5,
-            Verdict::Order(_) => 6,
-            Verdict::Independent => 7,
-            Verdict::Synchronization(_) => 8,
-        }
+    if Table::TASKS < t.count {
+        return Verdict::Count;
     }
-
-    // The position that it names; 0 where none is concerned.
-    pub fn position(self) -> usize
-        ensures { λ r. ⌜ r ≡ answer self .1 ⌝ }
-    {
-        match self {
-            Verdict::Passed => 0,
-            Verdict::Count => 0,
-            Verdict::Setting => 0,
-            Verdict::Range(k) => k,
-            Verdict::Divisor(k) => k,
-            Verdict::Order(k) => k,
-            Verdict::Independent => 0,
-            Verdict::Synchronization(k) => k,
-        }
+    if t.full < 1 {
+        return Verdict::Setting;
     }
+    if Table::FULL < t.full {
+        return Verdict::Setting;
+    }
+    if t.round < 1 {
+        return Verdict::Setting;
+    }
+    if Table::ROUND < t.round {
+        return Verdict::Setting;
+    }
+    let fault = ranges::first_fault(t);
+    if fault.number() != 0 {
+        return fault;
+    }
+    if (t.round as u64) < sums::independent_sum(t) {
+        return Verdict::Independent;
+    }
+    sums::first_overload(t)
 }

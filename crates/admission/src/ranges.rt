@@ -5,11 +5,11 @@ ghost use Rattle.units.specs.Folds.{all, first};
 ghost use lib.Dec.{leb};
 ghost use Rattle.table.specs.Table.{limit};
 ghost use Rattle.admission.specs.Admission.{inRange, fault, faultAt, faulty};
-ghost use Rattle.admission.specs.declared.Verdict.the-variants.{Passed};
-use crate::Verdict;
+ghost use Rattle.verdict.specs.declared.Verdict.the-variants.{Passed};
 use table::Table;
 use table::Task;
 use units::Ticks;
+use verdict::Verdict;
 
 fn limits_in_range(task: Task) -> bool
     ensures { λ b. ⌜ b ≡ all (λ r. leb (limit task r) (task .budget .0)) 8 ⌝ }

@@ -3,12 +3,12 @@ ghost use mathlib.Core.Path.{_≡_};
 ghost use Prim.Native.Nat.{_≤_, _*_};
 ghost use Rattle.units.specs.Folds.{sum, first};
 ghost use Rattle.admission.specs.Admission.{ticksInRound, independentSum, overloaded};
-ghost use Rattle.admission.specs.declared.Verdict.the-variants.{Passed, Synchronization};
-use crate::Verdict;
+ghost use Rattle.verdict.specs.declared.Verdict.the-variants.{Passed, Synchronization};
 use crate::blocking;
 use table::Table;
 use units::Steps;
 use units::Ticks;
+use verdict::Verdict;
 
 // The ticks that some work takes at a speed in a round, once in each D.
 fn ticks_in_round(work: Steps, speed: u8, round: u32, deadline: Ticks) -> u64

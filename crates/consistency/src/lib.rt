@@ -1,7 +1,6 @@
 // Whether a state is consistent: document 01's last paragraph of 'Numbers returned'.
 ghost use mathlib.Core.Path.{_≡_};
 ghost use Rattle.consistency.specs.Consistency.{halfFits, markFits, consistent};
-use admission::Verdict;
 use state::Half;
 use state::Mark;
 use state::Runner;
@@ -38,7 +37,7 @@ fn half_fits(table: Table, state: State, half: Half) -> bool
 pub fn consistent(table: Table, state: State) -> bool
     ensures { λ r. ⌜ r ≡ consistent table state ⌝ }
 {
-    let verdict = Verdict::of(table);
+    let verdict = admission::verdict_of(table);
     if verdict.number() != 0 {
         return false;
     }

@@ -8,8 +8,8 @@ use native.Mathlib.Omega.{arith}
 use Rattle.units.specs.Clock.{tick}
 use Rattle.table.specs.declared.Table.{Table}
 use Rattle.table.specs.Table.{D}
-use Rattle.admission.specs.declared.Verdict.{Verdict}
-use Rattle.admission.specs.Admission.{answer}
+use Rattle.verdict.specs.declared.Verdict.{Verdict}
+use Rattle.verdict.specs.Verdict.{answer}
 use Rattle.state.specs.{declared.State.State, declared.Report.the-variants.CarryOn, State.jobAt, State.fresh}
 use Rattle.promise.specs.History.{Machine, release, choose, report, lines, stateAfter, start, ticksClosed, hasEnded}
 use Rattle.promise.specs.Promise.{TakenOn, stateTaken, since, InTime}

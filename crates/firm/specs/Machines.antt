@@ -12,7 +12,7 @@ use Rattle.promise.specs.Promise.{Promise}
 
 -- The contracts of the code, of a machine's functions in place of it.
 pub record Contracts (m : Machine) : Type 0 where
-  pub verdict : (t : Table) → Admission.Verdict.of.Reads.Learnt tt (t, tt) (m .verdict t) (t, tt)
+  pub verdict : (t : Table) → Admission.verdict_of.Reads.Learnt tt (t, tt) (m .verdict t) (t, tt)
   pub fresh : (t : Table) (now : Tick) → State.State.fresh.Reads.Learnt tt (t, (now, tt)) (m .fresh t now) (t, (now, tt))
   pub release : (t : Table) (s : State) (p : ℕ) → Machine.release.Reads.Learnt tt (t, (s, (p, tt))) (m .release t s p) (t, (s, (p, tt)))
   pub choose : (t : Table) (s : State) → Machine.choose.Reads.Learnt tt (t, (s, tt)) (m .choose t s) (t, (s, tt))

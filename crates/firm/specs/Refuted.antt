@@ -4,7 +4,7 @@ use mathlib.Core.{Path._≡_, Bool.true, Bool.false, Bool.cond, List.[], List._�
 use lib.Dec.{eqb}
 use Rattle.units.specs.{declared.Tick.Tick, Amounts.given}
 use Rattle.table.specs.declared.Table.{Table}
-use Rattle.admission.specs.Admission.{answer}
+use Rattle.verdict.specs.Verdict.{answer}
 use Rattle.state.specs.{declared.State.State, declared.Answer.Answer, declared.Report.Report, State.jobAt}
 use Rattle.state.specs.declared.Runner.the-variants.{Job}
 use Rattle.report.specs.Report.{ended}

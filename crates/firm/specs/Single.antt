@@ -4,6 +4,7 @@ use contract.Lifetimes.{Lfts}
 use denote.Triple.Entry.{Args, Res}
 use denote.Triple.Clauses.{Ended, Lasts, AtExit, atExit}
 use Rattle.units.proofs as Units
+use Rattle.verdict.proofs as Verdict
 use Rattle.table.proofs as Table
 use Rattle.admission.proofs as Admission
 use Rattle.state.proofs as State
@@ -38,9 +39,9 @@ pub record Singleness : Type 0 where
   pub lowest : Single Units.sets.lowest.ended Units.sets.lowest.Reads.Learnt
   pub limit : Single Table.Task.limit.ended Table.Task.limit.Reads.Learnt
   pub ceilings : Single Table.Table.ceilings.ended Table.Table.ceilings.Reads.Learnt
-  pub verdictOf : Single Admission.Verdict.of.ended Admission.Verdict.of.Reads.Learnt
-  pub number : Single Admission.Verdict.number.ended Admission.Verdict.number.Reads.Learnt
-  pub position : Single Admission.Verdict.position.ended Admission.Verdict.position.Reads.Learnt
+  pub verdictOf : Single Admission.verdict_of.ended Admission.verdict_of.Reads.Learnt
+  pub number : Single Verdict.Verdict.number.ended Verdict.Verdict.number.Reads.Learnt
+  pub position : Single Verdict.Verdict.position.ended Verdict.Verdict.position.Reads.Learnt
   pub fresh : Single State.State.fresh.ended State.State.fresh.Reads.Learnt
   pub bare : Single State.Answer.bare.ended State.Answer.bare.Reads.Learnt
   pub any : Single State.Held.any.ended State.Held.any.Reads.Learnt

@@ -1,5 +1,4 @@
 // Lists the record file that its argument names, or standard input without one.
-use admission::Verdict;
 use libc::STDERR_FILENO;
 use libc::STDIN_FILENO;
 use libc::STDOUT_FILENO;
@@ -29,7 +28,7 @@ fn name_position(file: &[u8]) {
     if !records::well_formed(file) {
         return;
     }
-    let verdict = Verdict::of(records::table(file));
+    let verdict = admission::verdict_of(records::table(file));
     let number = verdict.number();
     if number < 4 {
         return;

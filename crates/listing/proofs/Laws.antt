@@ -11,8 +11,9 @@ use lib.Dec.{eqb}
 use borrow.Author.Tests.{eq-eqb, ne-eqb, lt-leb}
 use Rattle.units.specs.Folds.{over}
 use Rattle.units.proofs.Laws.Folds.{over-more}
+use Rattle.verdict.specs.Verdict.{answer}
 use Rattle.table.specs.declared.Table.{Table}
-use Rattle.admission.specs.Admission.{answer, verdict}
+use Rattle.admission.specs.Admission.{verdict}
 use Rattle.units.specs.declared.Tick.{Tick}
 use Rattle.state.specs.{declared.State.State, declared.Start.Start, State.fresh}
 use Rattle.records.specs.{declared.Event.Event, Records.firstEvent, Records.eventCount, Records.wellFormed, Contents.table, Contents.start, Contents.event}

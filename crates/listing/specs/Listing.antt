@@ -4,8 +4,9 @@ use mathlib.Core.Bool.{true, cond}
 use mathlib.Core.List.{List, [], _++_}
 use lib.Dec.{eqb}
 use Rattle.units.specs.Folds.{over}
+use Rattle.verdict.specs.Verdict.{answer}
 use Rattle.table.specs.declared.Table.{Table}
-use Rattle.admission.specs.Admission.{answer, verdict}
+use Rattle.admission.specs.Admission.{verdict}
 use Rattle.state.specs.{declared.State.State, declared.Answer.Answer, State.fresh}
 use Rattle.machine.specs.Machine as Machine
 use Rattle.records.specs.{declared.Event.Event, Records.firstEvent, Records.eventCount, Records.wellFormed, Contents.table, Contents.start, Contents.event}

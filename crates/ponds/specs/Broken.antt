@@ -4,7 +4,8 @@ use mathlib.Core.{Path._≡_, Bool.Bool, Bool.false, Bool.not, Bool._&&_, Bool.c
 use lib.{ListN.getD, ListN.set, Dec.ltb, Dec.eqb}
 use Rattle.units.specs.{Amounts.ticks, Amounts.steps, Amounts.given, Folds.some, Folds.sum}
 use Rattle.table.specs.{declared.Task.Task, declared.Table.Table, Table.taskAt, Table.D, Table.C, Table.I, Table.S, Table.ceilings}
-use Rattle.admission.specs.Admission.{ticksInRound, independentSum, answer, verdict}
+use Rattle.verdict.specs.Verdict.{answer}
+use Rattle.admission.specs.Admission.{ticksInRound, independentSum, verdict}
 use Rattle.state.specs.{declared.Job.Job, declared.State.State, declared.Held.Held, declared.Held.the-variants.Nothing, declared.Held.the-variants.In, declared.Report.Report, declared.Report.the-variants.Take, State.jobAt, Order.positionOf, Order.isStarted, Order.firstInOrder, Order.lastHolder}
 use Rattle.choice.specs.{Choice.top, Choice.runner, Choice.oldMark, Choice.markAt, Choice.synchronized, Choice.rule1, Choice.noHolderBehind, Choice.rules, Choice.turn}
 use Rattle.report.specs.Report as Report

@@ -2,7 +2,7 @@
 use Prim.Native.Nat.{ℕ}
 use mathlib.Core.{Path._≡_, Bool.true, Bool.false}
 use Rattle.units.specs.Amounts.{given}
-use Rattle.admission.specs.Admission.{answer}
+use Rattle.verdict.specs.Verdict.{answer}
 use Rattle.state.specs.{declared.State.State, declared.Answer.Answer, declared.Report.the-variants.CarryOn, State.jobAt}
 use Rattle.state.specs.declared.Runner.the-variants.{Job}
 use Rattle.promise.specs.History.{written, start}

@@ -4,7 +4,8 @@ use mathlib.Core.Path.{_≡_}
 use mathlib.Core.List.{List, [], _∷_, _++_}
 use Rattle.units.specs.Clock as Clock
 use Rattle.units.specs.Folds.{listed}
-use Rattle.admission.specs.Admission.{ticksInRound, B, independentSum, synchronizationSum, answer, verdict}
+use Rattle.verdict.specs.Verdict.{answer}
+use Rattle.admission.specs.Admission.{ticksInRound, B, independentSum, synchronizationSum, verdict}
 use Rattle.state.specs.declared.Report.the-variants.{CarryOn, Take, Give, Done}
 use Rattle.state.specs.declared.Runner.the-variants.{Nobody, Job}
 use Rattle.state.specs.State.{jobAt}

@@ -4,7 +4,7 @@ use mathlib.Core.{Bool.Bool, Bool.true, Bool.false, Bool._&&_, Bool._||_, Bool.c
 use lib.Dec.{leb, eqb}
 use Rattle.units.specs.{declared.Tick.Tick, Amounts.steps, Amounts.given, Clock.tick}
 use Rattle.table.specs.{declared.Table.Table, Table.taskAt, Table.C, Table.limit}
-use Rattle.admission.specs.declared.Verdict.{Verdict}
+use Rattle.verdict.specs.declared.Verdict.{Verdict}
 use Rattle.admission.specs.Admission as Admission
 use Rattle.state.specs.{declared.State.State, declared.Answer.Answer, declared.Held.Held, declared.Held.the-variants.Nothing, declared.Held.the-variants.In, declared.Report.Report, declared.Report.the-variants.CarryOn, declared.Report.the-variants.Done, declared.Report.the-variants.Take, declared.Report.the-variants.Give, declared.Runner.Runner, declared.Start.Start}
 use Rattle.state.specs.declared.Runner.the-variants as Runs

@@ -2,8 +2,8 @@
 use Prim.Native.Nat.{ℕ, _^_, _≤_, _<_}
 use mathlib.Core.{Path._≡_, Logic._⊎_, Bool.true, Bool.false, List.List, List._∷_, List._++_}
 use lib.ListN.{length}
+use Rattle.verdict.specs.Verdict.{answer}
 use Rattle.table.specs.{declared.Table.Table, Table.taskAt, Table.D, Table.C, Table.limit}
-use Rattle.admission.specs.Admission.{answer}
 use Rattle.state.specs.{declared.State.State, declared.Answer.Answer, declared.Section.Section, declared.Held.the-variants.In, declared.Report.Report, declared.Report.the-variants.CarryOn, State.jobAt}
 use Rattle.promise.specs.History.{Machine, Call, release, choose, report, answered, Line, lines, stateAfter, start, isOwn, ticksClosed, stepsGiven, section, hasEnded}
 

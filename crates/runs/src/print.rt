@@ -1,5 +1,4 @@
 // What is written: words and numbers, one space apart.
-use admission::Verdict;
 use libc::STDOUT_FILENO;
 use state::Half;
 use state::Held;
@@ -8,6 +7,7 @@ use state::Mark;
 use state::Mode;
 use state::Runner;
 use state::State;
+use verdict::Verdict;
 
 pub(crate) fn write(text: &[u8]) {
     io::write_all(STDOUT_FILENO, text);

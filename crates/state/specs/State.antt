@@ -3,8 +3,9 @@ use Prim.Native.Nat.{ℕ}
 use mathlib.Core.{Bool.Bool, Bool.false, Bool.cond}
 use lib.{ListN.getD, Dec.eqb}
 use Rattle.units.specs.{declared.Tick.Tick, Amounts.ticks, Amounts.steps, Clock.tick, Folds.listed}
+use Rattle.verdict.specs.{Verdict.answer}
 use Rattle.table.specs.{declared.Table.Table}
-use Rattle.admission.specs.{Admission.answer, Admission.verdict}
+use Rattle.admission.specs.{Admission.verdict}
 use Rattle.state.specs.{declared.Job.Job, declared.State.State, declared.Start.Start, declared.Held.the-variants.Nothing, declared.Mark.the-variants.Absent, declared.Half.the-variants.First, declared.Runner.the-variants.Nobody}
 
 -- "What is not in use is 0"

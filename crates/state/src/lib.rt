@@ -2,11 +2,11 @@
 ghost use mathlib.Core.Path.{_≡_};
 ghost use Rattle.state.specs.State.{fresh};
 ghost use Rattle.state.specs.Answers.{bare};
-use admission::Verdict;
 use table::Table;
 use units::Steps;
 use units::Tick;
 use units::Ticks;
+use verdict::Verdict;
 
 mod holders;
 
@@ -115,7 +115,7 @@ impl State {
     pub fn fresh(table: Table, tick: Tick) -> Start
         ensures { λ r. ⌜ r ≡ fresh table tick ⌝ }
     {
-        let verdict = Verdict::of(table);
+        let verdict = admission::verdict_of(table);
         let mut now = Tick(0);
         if verdict.number() == 0 {
             now = tick;

@@ -9,12 +9,13 @@ use lib.Dec.{ltb, leb, eqb}
 use borrow.Author.Tests.{not-false, ltb-false, leb-true, le-leb, lt-ltb, le-ltb, eqb-true, eq-eqb}
 use Rattle.units.specs.Folds.{largest}
 use Rattle.units.proofs.Laws.Folds.{all-tells, all-holds, largest-bounds}
+use Rattle.verdict.specs.declared.Verdict.{Verdict}
+use Rattle.verdict.specs.declared.Verdict.the-variants as Is
+use Rattle.verdict.specs.Verdict.{answer}
 use Rattle.table.specs.declared.Table.{Table}
-use Rattle.admission.specs.declared.Verdict.{Verdict}
-use Rattle.admission.specs.declared.Verdict.the-variants as Is
 use Rattle.table.proofs.Laws.Ceilings.{ceiling-user}
 use Rattle.table.specs.Table.{taskAt, D, C, limit, ceiling}
-use Rattle.admission.specs.Admission.{B, independentSum, synchronizationSum, answer, countInRange, settingInRange, inRange, fault, previous, faultAt, faulty, overloaded, sums, verdict}
+use Rattle.admission.specs.Admission.{B, independentSum, synchronizationSum, countInRange, settingInRange, inRange, fault, previous, faultAt, faulty, overloaded, sums, verdict}
 use Rattle.admission.proofs.Laws.Ranges.{CountFits, SettingFits, NumbersFit, count-tells, setting-tells, range-tells, range-holds, sound, no-fault}
 use Rattle.admission.proofs.Laws.Verdict.{Zero, first-tells, first-holds, says-rest}
 

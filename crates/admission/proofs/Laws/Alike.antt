@@ -6,13 +6,14 @@ use native.Mathlib.Omega.{arith}
 use lib.Dec.{ltb, leb, eqb}
 use Rattle.units.specs.Folds.{sum, largest, first}
 use Rattle.units.proofs.Laws.Folds.{sum-same, largest-same, first-same}
+use Rattle.verdict.specs.declared.Verdict.{Verdict}
+use Rattle.verdict.specs.declared.Verdict.the-variants as Is
+use Rattle.verdict.specs.Verdict.{answer}
 use Rattle.table.specs.declared.Task.{Task}
 use Rattle.table.specs.declared.Table.{Table}
 use Rattle.table.specs.Table.{taskAt, D, C, S, limit}
 use Rattle.table.proofs.Laws.Alike.{Alike, ceiling-same}
-use Rattle.admission.specs.declared.Verdict.{Verdict}
-use Rattle.admission.specs.declared.Verdict.the-variants as Is
-use Rattle.admission.specs.Admission.{ticksInRound, independentSum, B, synchronizationSum, answer, countInRange, settingInRange, fault, previous, faultAt, faulty, overloaded, sums, verdict}
+use Rattle.admission.specs.Admission.{ticksInRound, independentSum, B, synchronizationSum, countInRange, settingInRange, fault, previous, faultAt, faulty, overloaded, sums, verdict}
 
 module _ {t u : Table} (a : Alike t u) where
   -- a position of the table, at one of its two speeds

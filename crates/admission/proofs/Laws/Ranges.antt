@@ -6,11 +6,12 @@ use lib.Dec.{leb}
 use borrow.Author.Tests.{leb-true, le-leb, eq-eqb, ne-eqb}
 use Rattle.units.specs.Folds.{all}
 use Rattle.units.proofs.Laws.Folds.{both}
+use Rattle.verdict.specs.declared.Verdict.{Verdict}
+use Rattle.verdict.specs.Verdict.{answer}
 use Rattle.table.specs.declared.Task.{Task}
 use Rattle.table.specs.declared.Table.{Table}
-use Rattle.admission.specs.declared.Verdict.{Verdict}
 use Rattle.table.specs.Table.{limit}
-use Rattle.admission.specs.Admission.{answer, countInRange, settingInRange, inRange, faultAt, faulty}
+use Rattle.admission.specs.Admission.{countInRange, settingInRange, inRange, faultAt, faulty}
 
 -- a test that cannot hold is false
 pub no-test : (b : Bool) → (b ≡ true → ⊥) → false ≡ b

@@ -8,10 +8,11 @@ use native.Mathlib.Omega.{arith}
 use borrow.Author.Tests.{lt-ltb, le-ltb}
 use Rattle.units.specs.Folds.{first}
 use Rattle.units.proofs.Laws.Folds.{lowest-bound, lowest-at, lowest-is, none-below, first-at, first-none}
+use Rattle.verdict.specs.declared.Verdict.{Verdict}
+use Rattle.verdict.specs.declared.Verdict.the-variants as Is
+use Rattle.verdict.specs.Verdict.{answer}
 use Rattle.table.specs.declared.Table.{Table}
-use Rattle.admission.specs.declared.Verdict.{Verdict}
-use Rattle.admission.specs.declared.Verdict.the-variants as Is
-use Rattle.admission.specs.Admission.{independentSum, answer, countInRange, settingInRange, faultAt, faulty, overloaded, sums, verdict}
+use Rattle.admission.specs.Admission.{independentSum, countInRange, settingInRange, faultAt, faulty, overloaded, sums, verdict}
 use Rattle.admission.proofs.Laws.Ranges.{no-test, CountFits, SettingFits, count-tells, count-holds, setting-tells, setting-holds, sound}
 
 -- ---- an answer whose number is 0, and the first that is not

@@ -7,10 +7,11 @@ use borrow.Author.Tests.{lt-ltb, le-leb, eq-eqb, ltb-true, leb-true, eqb-true}
 use Rattle.units.specs.declared.Tick.{Tick}
 use Rattle.units.specs.Clock.{distance}
 use Rattle.units.proofs.Laws.Folds.{both, all-tells, all-holds}
+use Rattle.verdict.specs.Verdict.{answer}
 use Rattle.table.specs.declared.Task.{Task}
 use Rattle.table.specs.declared.Table.{Table}
 use Rattle.table.specs.Table.{taskAt}
-use Rattle.admission.specs.Admission.{answer, verdict}
+use Rattle.admission.specs.Admission.{verdict}
 use Rattle.admission.proofs.Laws.Admitted.{admitted}
 use Rattle.state.specs.declared.Job.{Job}
 use Rattle.state.specs.declared.State.{State}

@@ -9,8 +9,9 @@ use Rattle.units.specs.declared.Tick.{Tick}
 use Rattle.units.specs.Clock.{tick}
 use Rattle.units.specs.Folds.{listed}
 use Rattle.units.proofs.Laws.Folds.{listed-at, listed-length}
+use Rattle.verdict.specs.Verdict.{answer}
 use Rattle.table.specs.declared.Table.{Table}
-use Rattle.admission.specs.Admission.{answer, verdict}
+use Rattle.admission.specs.Admission.{verdict}
 use Rattle.state.specs.declared.Half.the-variants.{First}
 use Rattle.state.specs.declared.Mark.the-variants.{Absent}
 use Rattle.state.specs.declared.Runner.the-variants.{Nobody}

@@ -6,8 +6,8 @@ use borrow.Author.Needs.{needs}
 use Rattle.state.proofs.State.fresh.Statement.{statement}
 use Rattle.state.proofs.State.fresh.Tie as tie
 
-of-requires : tie.Need-of-requires
-of-requires c κs = search needs
+verdict-of-requires : tie.Need-verdict-of-requires
+verdict-of-requires c κs = search needs
 
 number-requires : tie.Need-number-requires
 number-requires c κs = search needs
@@ -15,14 +15,14 @@ number-requires c κs = search needs
 returns : tie.Need-returns
 unfolding empty listed over
 returns c =
-    rw (c .before .before .of .ensures)
-    (sym (fresh-passed _ _ (sym (c .before .number .ensures ∙ rw (c .before .before .of .ensures)) ∙ c .if1 .taken)))
+    rw (c .before .before .verdict-of .ensures)
+    (sym (fresh-passed _ _ (sym (c .before .number .ensures ∙ rw (c .before .before .verdict-of .ensures)) ∙ c .if1 .taken)))
 
 returns-2 : tie.Need-returns-2
 unfolding empty listed over
 returns-2 c =
-    rw (c .before .before .of .ensures)
-    (sym (fresh-refused _ _ (λ h. c .if1 .left (c .before .number .ensures ∙ rw (c .before .before .of .ensures) h))))
+    rw (c .before .before .verdict-of .ensures)
+    (sym (fresh-refused _ _ (λ h. c .if1 .left (c .before .number .ensures ∙ rw (c .before .before .verdict-of .ensures) h))))
 
 pub fresh-spec : {M : Type 1} → statement M
-fresh-spec = tie.close (tie.spec of-requires number-requires returns returns-2)
+fresh-spec = tie.close (tie.spec verdict-of-requires number-requires returns returns-2)

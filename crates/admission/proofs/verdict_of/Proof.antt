@@ -2,8 +2,8 @@ use mathlib.Core.Path.{sym, _∙_}
 use native.Mathlib.Omega.{arith}
 use Rattle.admission.proofs.Laws.Verdict.{says-count, says-setting, says-fault, says-independent, says-overload}
 use borrow.Author.Needs.{needs}
-use Rattle.admission.proofs.Verdict.of.Statement.{statement}
-use Rattle.admission.proofs.Verdict.of.Tie as tie
+use Rattle.admission.proofs.verdict_of.Statement.{statement}
+use Rattle.admission.proofs.verdict_of.Tie as tie
 
 returns : tie.Need-returns
 returns c = says-count _ (λ h. omega arith)
@@ -55,8 +55,8 @@ returns-9 c =
     ∙ says-overload _ (omega (arith, n .before .before)) (omega (arith, n .before .before)) (n .before .first-fault .ensures) (sym (n .number .ensures) ∙ s .before .before .if7 .left)
     (s .independent-sum .ensures) (c .before .if8 .left)
 
-pub of-spec : {M : Type 1} → statement M
-of-spec =
+pub verdict-of-spec : {M : Type 1} → statement M
+verdict-of-spec =
     tie.close
     (tie.spec
     returns
