@@ -9,7 +9,7 @@ use Rattle.table.proofs as Table
 use Rattle.admission.proofs as Admission
 use Rattle.state.proofs as State
 use Rattle.chooser.proofs as Chooser
-use Rattle.report.proofs as Report
+use Rattle.reporter.proofs as Reporter
 use Rattle.consistency.proofs as Consistency
 use Rattle.machine.proofs as Machine
 use Rattle.records.proofs as Records
@@ -48,7 +48,7 @@ pub record Singleness : Type 0 where
   pub join : Single State.Held.join.ended State.Held.join.Reads.Learnt
   pub turnOf : Single Chooser.turn_of.ended Chooser.turn_of.Reads.Learnt
   pub choice : Single Chooser.choose.ended Chooser.choose.Reads.Learnt
-  pub secondHalf : Single Report.report.ended Report.report.Reads.Learnt
+  pub secondHalf : Single Reporter.report.ended Reporter.report.Reads.Learnt
   pub consistent : Single Consistency.consistent.ended Consistency.consistent.Reads.Learnt
   pub release : Single Machine.release.ended Machine.release.Reads.Learnt
   pub choose : Single Machine.choose.ended Machine.choose.Reads.Learnt

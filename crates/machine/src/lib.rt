@@ -99,5 +99,5 @@ pub fn report(table: Table, state: State, said: Report) -> Answer
     if !mid_tick(half) {
         return Answer::bare(11, state);
     }
-    report::report(table, state, said)
+    reporter::report(table, state, said)
 }

@@ -1,4 +1,3 @@
 pub mod Jobs
-pub mod Lists
 pub mod Answers
 pub mod Sections
