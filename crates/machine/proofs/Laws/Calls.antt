@@ -1,19 +1,26 @@
 -- What each call answers, case by case, in the order of its numbers. Assumes nothing.
-use Prim.Native.Nat.{ℕ, _≤_, _<_}
-use mathlib.Core.Path.{_≡_, refl}
+use Prim.Native.Nat.{ℕ, _*_, _^_, _≤_, _<_}
+use mathlib.Core.Path.{_≡_, refl, sym, ap, _∙_}
+use mir.Syntax.{w64}
+use mir.Val.{Fits}
+use borrow.Author.Needs.{scaled-fits}
+use native.Mathlib.Omega.{arith}
+use Rattle.units.proofs.Laws.Tests.{passed}
 use mathlib.Core.Bool.{Bool, true, false, not, cond}
-use lib.ListN.{length}
+use lib.ListN.{length, set}
 use lib.Seq.{getD-set-same, getD-set-other}
 use lib.Dec.{ltb, leb}
-use borrow.Author.Tests.{lt-ltb, le-ltb, lt-leb, le-leb}
+use borrow.Author.Tests.{ltb-true, lt-ltb, le-ltb, lt-leb, le-leb}
 use Rattle.table.specs.declared.Table.{Table}
 use Rattle.table.specs.Table.{taskAt}
 use Rattle.admission.proofs.Laws.Admitted.{admitted}
+use Rattle.state.specs.declared.Job.{Job}
 use Rattle.state.specs.declared.State.{State}
 use Rattle.state.specs.declared.Answer.{Answer}
 use Rattle.state.specs.declared.Report.{Report}
 use Rattle.state.specs.State.{noJob, jobAt}
 use Rattle.state.specs.Answers.{bare}
+use Rattle.choice.specs.declared.Choice.{Choice}
 use Rattle.choice.specs.Choice.{choice}
 use Rattle.report.specs.Report as AtReport
 use Rattle.report.proofs.Laws.Answers as ReportAnswers
@@ -24,6 +31,14 @@ use Rattle.machine.specs.Machine.{midTick, released, releasedAt, release
 -- a consistent state has a table of at most 16 tasks
 pub few : (t : Table) (s : State) → consistent t s ≡ true → t .count ≤ 16
 few t s h = admitted t (consistent-tells t s h .passes) .count .high
+
+-- a position in the table, as release has tested it, is one of the sixteen
+module _ (t : Table) (s : State) (p : ℕ) {r : Bool} (e : r ≡ consistent t s) (h : not r ≡ false) (l : p < t .count) where
+  pub placed : p < 16
+  placed = omega (arith, few t s (passed e h))
+
+  pub placed-fits : (k : ℕ) → ltb (16 * k) (2 ^ 63) ≡ true → Fits w64 (p * k)
+  placed-fits k small = scaled-fits p 16 k placed (ltb-true _ _ small)
 
 module _ (t : Table) (s : State) where
   pub release-9 : (p : ℕ) → consistent t s ≡ false → release t s p ≡ bare 9 s
@@ -60,6 +75,9 @@ module _ (t : Table) (s : State) where
       unfolding choose
       choose-runs = simp (good, between)
 
+      pub choose-makes : (c : Choice) → c ≡ choice t s → chosen c ≡ choose t s
+      choose-makes c e = ap chosen e ∙ sym choose-runs
+
       pub release-10 : (p : ℕ) → t .count ≤ p → release t s p ≡ bare 10 s
       unfolding release
       release-10 p l = simp (good, between, le-leb _ _ l)
@@ -71,6 +89,10 @@ module _ (t : Table) (s : State) where
       pub release-taken : (p : ℕ) → p < t .count → jobAt s p .wait .0 ≤ 0 → release t s p ≡ bare 0 (releasedAt t s p)
       unfolding release
       release-taken p l w = simp (good, between, lt-leb _ _ l, le-ltb _ _ w)
+
+      pub release-takes : (p : ℕ) → p < t .count → jobAt s p .wait .0 ≤ 0 → (j : Job) → j ≡ released (taskAt t p) (s .tick .0)
+          → release t s p ≡ bare 0 (record { tick = s .tick; jobs = set (s .jobs) p j; mark = s .mark; half = s .half; runner = s .runner })
+      release-takes p l w j e = rw e (release-taken p l w)
 
 -- what a release that is taken does to each job
 module _ (t : Table) (s : State) (p : ℕ) where

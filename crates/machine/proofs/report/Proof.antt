@@ -1,5 +1,4 @@
-use mathlib.Core.Path.{sym, _∙_}
-use borrow.Author.Tests.{not-true, not-false}
+use Rattle.machine.proofs.Laws.Told.{told}
 use Rattle.machine.proofs.Laws.Calls.{report-9, report-11, report-runs}
 use borrow.Author.Needs.{needs}
 use Rattle.machine.proofs.report.Statement.{statement}
@@ -12,7 +11,7 @@ bare-requires : tie.Need-bare-requires
 bare-requires c κs = search needs
 
 returns : tie.Need-returns
-returns c = c .bare .ensures ∙ sym (report-9 _ _ _ (sym (c .before .before .consistent .ensures) ∙ not-true _ (c .before .if1 .taken)))
+returns c = search (told, report-9)
 
 mid-tick-requires : tie.Need-mid-tick-requires
 mid-tick-requires c κs = search needs
@@ -21,13 +20,13 @@ bare-requires-2 : tie.Need-bare-requires-2
 bare-requires-2 c κs = search needs
 
 returns-2 : tie.Need-returns-2
-returns-2 c = c .bare2 .ensures ∙ sym (report-11 _ _ (sym (c .before .before .before .before .consistent .ensures) ∙ not-false _ (c .before .before .before .if1 .left)) _ (sym (c .before .before .mid-tick .ensures) ∙ not-true _ (c .before .if2 .taken)))
+returns-2 c = search (told, report-11)
 
 report-requires : tie.Need-report-requires
 report-requires c κs = search needs
 
 returns-3 : tie.Need-returns-3
-returns-3 c = c .report .ensures ∙ sym (report-runs _ _ (sym (c .before .before .before .before .consistent .ensures) ∙ not-false _ (c .before .before .before .if1 .left)) _ (sym (c .before .before .mid-tick .ensures) ∙ not-false _ (c .before .if2 .left)))
+returns-3 c = search (told, report-runs)
 
 pub report-spec : {M : Type 1} → statement M
 report-spec =
