@@ -1,14 +1,13 @@
 // Lists many record files in one process, for the tests: standard input is a pack, that is, for each file its length in four
 // bytes, the lowest first, and its bytes. An empty line follows each listing.
+// Three files stand in its stored run: that of the paper's whole listing, an empty one, and a setting without tasks.
 use libc::STDERR_FILENO;
 use libc::STDIN_FILENO;
 use libc::STDOUT_FILENO;
 
-fn byte(bytes: &[u8], i: usize) -> u8 {
-    if i < bytes.len() {
-        return bytes[i];
-    }
-    0
+// A number of four bytes, the lowest first.
+fn number(a: u8, b: u8, c: u8, d: u8) -> usize {
+    a as usize + b as usize * 256 + (c as usize + d as usize * 256) * 65536
 }
 
 // The length of the next file; at the pack's end, one that no file has.
@@ -17,9 +16,7 @@ fn next_length() -> usize {
     if io::read_full(STDIN_FILENO, &mut four) < 4 {
         return usize::MAX;
     }
-    let low = byte(&four, 0) as usize + byte(&four, 1) as usize * 256;
-    let high = byte(&four, 2) as usize + byte(&four, 3) as usize * 256;
-    low + high * 65536
+    number(four[0], four[1], four[2], four[3])
 }
 
 fn list(file: &[u8]) -> bool {
