@@ -22,44 +22,40 @@ fn read(fd: i32, buffer: &mut [u8]) -> isize {
     end as isize
 }
 
-// Names the task that a table's number is about, on standard error, since the listing has the number alone. It is asked for
-// where the table's line, of 8 bytes, is all there is.
+// Names the task that a table's number is about, on standard error, since the listing has the number alone.
 fn name_position(file: &[u8]) {
-    if !records::well_formed(file) {
-        return;
-    }
     let verdict = admission::verdict_of(records::table(file));
-    let number = verdict.number();
-    if number < 4 {
-        return;
+    let names_a_task = match verdict.number() {
+        4 | 5 | 6 | 8 => true,
+        _ => false,
+    };
+    if names_a_task && records::well_formed(file) {
+        io::write_all(STDERR_FILENO, b"list: the number is that of position ");
+        io::print_decimal(STDERR_FILENO, verdict.position() as u64);
+        io::write_all(STDERR_FILENO, b", counted from 0\n");
     }
-    if number == 7 {
-        return;
-    }
-    io::write_all(STDERR_FILENO, b"list: the number is that of position ");
-    io::print_decimal(STDERR_FILENO, verdict.position() as u64);
-    io::write_all(STDERR_FILENO, b", counted from 0\n");
 }
 
-// Prints the listing of what stands in an open file, or says why it can't be read. One byte more than a file may have is
-// read, so that a file that is too long is seen to be.
+fn print_listing(file: &[u8]) {
+    let mut out = [0u8; listing::ROOM];
+    let end = listing::list(file, &mut out);
+    if !io::write_all(STDOUT_FILENO, &out[..end]) {
+        os::fail(b"standard output");
+    }
+}
+
+// Lists what stands in an open file, or says why it can't be read. One byte more than a file may have is read, so that a file
+// that is too long is seen to be.
 fn list(fd: i32, name: &[u8]) {
-    let mut file = [0u8; 65537];
-    let got = read(fd, &mut file);
+    let mut space = [0u8; 65537];
+    let got = read(fd, &mut space);
     if got < 0 {
         os::fail(name);
         return;
     }
-    let length = io::count(got, &file);
-    let mut out = [0u8; listing::ROOM];
-    let end = listing::list(&file[..length], &mut out);
-    if !io::write_all(STDOUT_FILENO, &out[..end]) {
-        os::fail(b"standard output");
-        return;
-    }
-    if end < 10 {
-        name_position(&file[..length]);
-    }
+    let file = &space[..io::count(got, &space)];
+    print_listing(file);
+    name_position(file);
 }
 
 fn list_named() {
