@@ -1,24 +1,25 @@
--- Any machine that keeps the contracts of the calls meets demands 2 and 3. Assumes nothing.
-use Prim.Native.Nat.{ℕ}
-use mathlib.Core.Path.{_≡_, refl, sym, ap, fun-ext, subst}
+-- A machine that keeps the contracts of our calls is the written one, and meets demands 2 and 3; one that meets demand 2 keeps them. Assumes nothing.
+use mathlib.Core.Path.{_≡_, refl, sym, fun-ext, subst}
 use Rattle.table.specs.declared.Table.{Table}
-use Rattle.state.specs.{declared.State.State, declared.Answer.Answer, declared.Start.Start}
+use Rattle.state.specs.{declared.State.State}
 use Rattle.promise.specs.History.{Machine, written, Call, release, choose, report, answered}
-use Rattle.promise.specs.Promise.{Promise}
 use Rattle.promise.proofs.Promise.{promise}
 use Rattle.firm.specs.Machines.{Contracts, Numbers, Choices, States, Meets}
 
--- the written rules keep them
-pub rules : Contracts written
-rules = record { verdict = λ t. refl; fresh = λ t now. refl; release = λ t s p. refl; choose = λ t s. refl; report = λ t s said. refl }
+-- ours: the functions that our contracts name
+pub ours : Contracts written
+ours = record { verdict = λ t. refl; fresh = λ t now. refl; release = λ t s p. refl; choose = λ t s. refl; report = λ t s said. refl }
 
+pub written-meets : Meets written
+written-meets = record {
+  numbers = record { verdict = λ t. refl; fresh = λ t now. refl; calls = λ t s call. refl };
+  choices = record { runner = λ t s call. refl; mode = λ t s call. refl; speed = λ t s call. refl; ending = λ t s call. refl };
+  states = record { fresh = λ t now. refl; calls = λ t s call. refl };
+  promise = promise;
+}
+
+-- whatever functions keep the contracts are these
 module _ (m : Machine) (c : Contracts m) where
-  answers : (t : Table) (s : State) (call : Call) → answered m t s call ≡ answered written t s call
-  answers t s (release p) = c .release t s p
-  answers t s choose = c .choose t s
-  answers t s (report said) = c .report t s said
-
-  -- no other functions do
   pub same : m ≡ written
   same = λ i. record {
     verdict = fun-ext (λ t. c .verdict t) i;
@@ -29,14 +30,25 @@ module _ (m : Machine) (c : Contracts m) where
   }
 
   pub meets : Meets m
-  meets = record {
-    numbers = record { verdict = c .verdict; fresh = λ t now. ap (λ (x : Start). x .verdict) (c .fresh t now); calls = λ t s call. ap (λ (a : Answer). a .number) (answers t s call) };
-    choices = record {
-      runner = λ t s call. ap (λ (a : Answer). a .runner) (answers t s call);
-      mode = λ t s call. ap (λ (a : Answer). a .mode) (answers t s call);
-      speed = λ t s call. ap (λ (a : Answer). a .speed) (answers t s call);
-      ending = λ t s call. ap (λ (a : Answer). a .ending) (answers t s call);
-    };
-    states = record { fresh = λ t now. ap (λ (x : Start). x .state) (c .fresh t now); calls = λ t s call. ap (λ (a : Answer). a .state) (answers t s call) };
-    promise = subst Promise (sym same) promise;
+  meets = subst Meets (sym same) written-meets
+
+-- the parts are all there is
+module _ (m : Machine) (n : Numbers m) (c : Choices m) (s : States m) where
+  answer-is : (t : Table) (x : State) (call : Call) → answered m t x call ≡ answered written t x call
+  answer-is t x call = λ i. record {
+    number = n .calls t x call i;
+    state = s .calls t x call i;
+    runner = c .runner t x call i;
+    mode = c .mode t x call i;
+    speed = c .speed t x call i;
+    ending = c .ending t x call i;
+  }
+
+  pub whole : Contracts m
+  whole = record {
+    verdict = n .verdict;
+    fresh = λ t now i. record { verdict = n .fresh t now i; state = s .fresh t now i };
+    release = λ t x p. answer-is t x (release p);
+    choose = λ t x. answer-is t x choose;
+    report = λ t x said. answer-is t x (report said);
   }

@@ -1,13 +1,11 @@
 -- "These must be refuted": each of any machine that has the fault, by the part of what is asked that document 01 names.
 use Prim.Native.Nat.{ℕ, _+_, _^_, _<_}
-use mathlib.Core.{Path._≡_, Bool.true, Bool.false, Bool.cond, List.[], List._∷_, List.map}
-use lib.Dec.{eqb}
+use mathlib.Core.{Path._≡_, Bool.true, Bool.false, List.[]}
 use Rattle.units.specs.{declared.Tick.Tick, Amounts.given}
 use Rattle.table.specs.declared.Table.{Table}
 use Rattle.verdict.specs.Verdict.{answer}
-use Rattle.state.specs.{declared.State.State, declared.Answer.Answer, declared.Report.Report, State.jobAt}
+use Rattle.state.specs.{declared.State.State, declared.Report.Report, State.jobAt}
 use Rattle.state.specs.declared.Runner.the-variants.{Job}
-use Rattle.report.specs.Report.{ended}
 use Rattle.promise.specs.History.{Machine, written, start}
 use Rattle.promise.specs.Promise.{Passed, TakenOn, InTime}
 use Rattle.ponds.specs.Tables.{two}
