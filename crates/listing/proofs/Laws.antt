@@ -1,5 +1,6 @@
 -- Laws of the listing. Assumes nothing.
-use Prim.Native.Nat.{ℕ, zero, suc, _+_, _*_, _≤_}
+pub mod Events
+use Prim.Native.Nat.{ℕ, _+_, _*_, _≤_}
 use mathlib.Core.Path.{_≡_, refl, sym, _∙_}
 use mathlib.Core.Bool.{Bool, true, false, cond}
 use mathlib.Core.List.{List, [], _++_, append-nil}
@@ -9,39 +10,18 @@ use lib.ListN.{length, take, length-append}
 use lib.Seq.{length-take-le}
 use lib.Dec.{eqb}
 use borrow.Author.Tests.{eq-eqb, ne-eqb, lt-leb}
-use Rattle.units.specs.Folds.{over}
-use Rattle.units.proofs.Laws.Folds.{over-more}
 use Rattle.verdict.specs.Verdict.{answer}
 use Rattle.table.specs.declared.Table.{Table}
 use Rattle.admission.specs.Admission.{verdict}
 use Rattle.units.specs.declared.Tick.{Tick}
 use Rattle.state.specs.{declared.State.State, declared.Start.Start, State.fresh}
-use Rattle.records.specs.{declared.Event.Event, Records.firstEvent, Records.eventCount, Records.wellFormed, Contents.table, Contents.start, Contents.event}
+use Rattle.records.specs.{Records.eventCount, Records.wellFormed, Contents.table, Contents.start}
 use Rattle.lines.specs.declared.Line.the-variants as Line
 use Rattle.lines.specs.Lines.{text}
 use Rattle.lines.proofs.Laws.{Lengths.text-le, Whole.Written, Whole.written-laid, Following.Begins, Following.begins-first}
 use Rattle.records.proofs.Laws.{lines-within}
-use Rattle.listing.specs.declared.Step.{Step}
-use Rattle.listing.specs.Listing.{step, more, page, listed, listing}
-
-module _ (file : List ℕ) (t : Table) (s : State) where
-  -- a line is at most 64 bytes long
-  pub page-le : (k : ℕ) → length (page file t s k .text) ≤ 64 * k
-  unfolding page over more
-  page-le zero = omega arith
-  page-le (suc k) =
-      let x = step t (page file t s k .state) (event file (firstEvent file + k)) in
-      omega (arith, length-append (page file t s k .text) (text (x .line)), text-le (x .line), page-le k)
-
-  -- one event more
-  pub page-more : (k : ℕ) {now : State} {first : ℕ} {e : Event} {x : Step}
-      → now ≡ page file t s k .state → first ≡ firstEvent file → e ≡ event file (first + k) → x ≡ step t now e
-      → (page file t s k .text ++ text (x .line) ≡ page file t s (k + 1) .text) × (x .state ≡ page file t s (k + 1) .state)
-  unfolding page more
-  page-more k {now} {first} {e} {x} h f said is =
-      let next = over-more (λ j. true) (more file t) (record { text = []; state = s }) k in
-      let same : x ≡ step t (page file t s k .state) (event file (firstEvent file + k)) = is ∙ rw (h, said, f) refl in
-      (rw (next, same) refl, rw (next, same) refl)
+use Rattle.listing.specs.Listing.{page, listed, listing}
+use Rattle.listing.proofs.Laws.Events.{page-le}
 
 -- the table's line, written, and the room for the events behind it
 pub first-line : {m : List ℕ} {r : ℕ} (l file : List ℕ) (n : ℕ) → 64 + 64 * eventCount file ≤ length l → Written 64 l (text (Line.Table n)) r m

@@ -1,12 +1,8 @@
-use Prim.Native.Nat.{_≤_}
 use native.Mathlib.Omega.{arith}
-use lib.ListN.{length}
 use Rattle.units.proofs.Laws.Tests.{passed, failed}
 use Rattle.records.proofs.Laws.{lines-within}
-use Rattle.lines.specs.Lines.{text}
-use Rattle.lines.specs.declared.Line.the-variants as Line
-use Rattle.lines.proofs.Laws.Whole.{written-laid, unwritten, laid-written}
-use Rattle.listing.specs.Listing.{listed, listing}
+use Rattle.lines.proofs.Laws.Whole.{unwritten}
+use Rattle.listing.specs.Listing.{listing}
 use Rattle.listing.proofs.Laws.{listed-whole, listed-malformed, listed-well-formed}
 use borrow.Author.Needs.{needs}
 use Rattle.listing.proofs.list.Statement.{statement}
