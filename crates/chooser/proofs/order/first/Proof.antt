@@ -3,10 +3,10 @@ use mathlib.Core.Path.{_≡_, refl, _∙_, ap}
 use native.Mathlib.Omega.{arith}
 use mathlib.Core.Bool.{cond}
 use Rattle.units.specs.Folds.{over, smallest}
-use Rattle.units.proofs.Laws.Folds.{smallest-next}
 use Rattle.state.specs.State.{jobAt}
 use Rattle.state.specs.Order.{firstInOrder, placeAt, noPlace, isStarted, isPending}
 use borrow.Author.Needs.{needs}
+use Rattle.chooser.proofs.Laws.Loops.{smallest-yet}
 use Rattle.chooser.proofs.order.first.Statement.{statement}
 use Rattle.chooser.proofs.order.first.Tie as tie
 
@@ -45,7 +45,7 @@ loop-less : tie.Need-loop-less Inv-loop μ-loop
 loop-less c = search needs
 
 loop-again : tie.Need-loop-again Inv-loop μ-loop
-loop-again c = (omega arith, smallest-next _ _ _ _ (c .before .before .before .before .before .before .loop .inv .1) (c .nearer .ensures ∙ rw (c .before .wanted .ensures, c .before .before .place .ensures)))
+loop-again c = (omega arith, search smallest-yet)
 
 returns : tie.Need-returns Inv-loop μ-loop
 unfolding firstInOrder

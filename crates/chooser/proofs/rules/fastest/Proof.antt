@@ -5,9 +5,9 @@ use mathlib.Core.Bool.{_&&_}
 use native.Mathlib.Omega.{arith}
 use lib.Dec.{ltb, leb}
 use Rattle.units.specs.Folds.{over, largest}
-use Rattle.units.proofs.Laws.Folds.{largest-next}
 use Rattle.table.specs.Table.{D, S}
 use Rattle.choice.specs.Choice.{fastest}
+use Rattle.chooser.proofs.Laws.Loops.{largest-yet}
 use Rattle.chooser.proofs.rules.fastest.Statement.{statement}
 use Rattle.chooser.proofs.rules.fastest.Tie as tie
 
@@ -41,7 +41,7 @@ loop-less : tie.Need-loop-less Inv-loop μ-loop
 loop-less c = search needs
 
 loop-again : tie.Need-loop-again Inv-loop μ-loop
-loop-again c = (omega arith, largest-next _ _ _ (c .before .before .before .before .loop .inv .1) (c .faster .ensures ∙ rw (c .before .lies-between .ensures)))
+loop-again c = (omega arith, search largest-yet)
 
 returns : tie.Need-returns Inv-loop μ-loop
 unfolding fastest

@@ -1,11 +1,25 @@
-use mathlib.Core.Path.{ap, _∙_}
-use native.Mathlib.Omega.{arith}
+use Prim.Native.Nat.{ℕ, _≤_}
+use mathlib.Core.Path.{_≡_, ap, _∙_}
+use native.Mathlib.Nat.{le-of-lt}
 use Rattle.units.specs.declared.Ticks.{Ticks}
+use Rattle.units.specs.Amounts.{ticks}
+use Rattle.table.specs.declared.Table.{Table}
 use Rattle.table.specs.Table.{D}
+use Rattle.state.specs.declared.State.{State}
+use Rattle.state.specs.Order.{positionOf}
+use Rattle.choice.specs.Choice.{shortestAhead, fastest, inherited}
 use Rattle.choice.proofs.Laws.Speed.{inherited-up, inherited-down}
 use borrow.Author.Needs.{needs}
 use Rattle.chooser.proofs.rules.inherited.Statement.{statement}
 use Rattle.chooser.proofs.rules.inherited.Tie as tie
+
+-- with the two ends found
+module _ (t : Table) (s : State) (run k : ℕ) (e : k ≡ positionOf run) (ahead : Ticks) (f : ahead ≡ ticks (shortestAhead t s run)) (r : ℕ) where
+  up : D t k ≤ ahead .0 → r ≡ fastest t (D t k) (ahead .0) → r ≡ inherited t s run
+  up l g = g ∙ inherited-up t s run _ _ (ap (D t) e) (ap (λ (d : Ticks). d .0) f) l
+
+  down : ahead .0 ≤ D t k → r ≡ fastest t (ahead .0) (D t k) → r ≡ inherited t s run
+  down l g = g ∙ inherited-down t s run _ _ (ap (D t) e) (ap (λ (d : Ticks). d .0) f) l
 
 position-requires : tie.Need-position-requires
 position-requires c κs = search needs
@@ -26,19 +40,13 @@ fastest-requires : tie.Need-fastest-requires
 fastest-requires c κs = search needs
 
 returns : tie.Need-returns
-returns c =
-    let a = c .before .before .before .before .before .before .before .before .args in
-    c .fastest .ensures
-    ∙ inherited-up (a .t1) (a .state) (a .run) _ _ (ap (D (a .t1)) (c .before .before .before .before .before .before .before .position .ensures)) (ap (λ (d : Ticks). d .0) (c .before .before .before .before .shortest-ahead .ensures)) (c .before .if1 .taken)
+returns c = search up
 
 fastest-requires-2 : tie.Need-fastest-requires-2
 fastest-requires-2 c κs = search needs
 
 returns-2 : tie.Need-returns-2
-returns-2 c =
-    let a = c .before .before .before .before .before .before .before .before .args in
-    c .fastest2 .ensures
-    ∙ inherited-down (a .t1) (a .state) (a .run) _ _ (ap (D (a .t1)) (c .before .before .before .before .before .before .before .position .ensures)) (ap (λ (d : Ticks). d .0) (c .before .before .before .before .shortest-ahead .ensures)) (omega arith)
+returns-2 c = search (down, le-of-lt)
 
 pub inherited-spec : {M : Type 1} → statement M
 inherited-spec =

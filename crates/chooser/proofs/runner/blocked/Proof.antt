@@ -1,20 +1,39 @@
+use Prim.Native.Nat.{ℕ, _-_, _≤_, _<_}
+use mathlib.Core.Bool.{Bool, true, false, not, _&&_}
+use Rattle.table.specs.Table.{D, ceilings}
+use Rattle.units.proofs.Laws.Folds.{some-holds}
 use borrow.Author.Needs.{needs}
-use Prim.Native.Nat.{_≤_, _-_}
 use mathlib.Core.Path.{_≡_, refl, sym, _∙_}
-use mathlib.Core.Bool.{false, not, _&&_}
 use native.Mathlib.Omega.{arith}
 use lib.Dec.{eqb}
 use Rattle.units.specs.Folds.{over, some}
-use Rattle.units.proofs.Laws.Folds.{some-next, some-holds}
-use Rattle.table.specs.Table.{ceilings}
 use Rattle.state.specs.State.{jobAt}
 use Rattle.choice.specs.Choice.{bars, blocked}
+use mathlib.Core.List.{List}
+use Rattle.units.specs.declared.Ticks.{Ticks}
+use Rattle.table.specs.declared.Table.{Table}
+use Rattle.state.specs.declared.State.{State}
+use Rattle.chooser.proofs.Laws.Loops.{none-yet}
 use Rattle.chooser.proofs.runner.blocked.Statement.{statement}
 use Rattle.chooser.proofs.runner.blocked.Tie as tie
 
+-- the job at k stands in the way of the one at p
+abbrev stands : List Ticks → State → ℕ → ℕ → ℕ → Bool
+stands c s d p k = bars c d (jobAt s k .held) && (jobAt s k .pending && not (eqb k p))
+
+-- of a job that is not started, with the ceilings
+module _ (t : Table) (s : State) (p : ℕ) (h : jobAt s p .started ≡ false) (c : List Ticks) (e : c ≡ ceilings t) where
+  one : (k : ℕ) → k < 16 → (b : Bool) → b ≡ true → b ≡ stands c s (D t p) p k → true ≡ blocked t s p
+  unfolding blocked
+  one k l b y f = rw (h, ← e) (sym (some-holds _ 16 k l (sym f ∙ y)))
+
+  none : (k : ℕ) → k ≤ 16 → 16 ≤ k → some (stands c s (D t p) p) k ≡ false → false ≡ blocked t s p
+  unfolding blocked
+  none k l m f = let z : k ≡ 16 = omega arith in rw (h, ← e) (sym (rw z at f))
+
 abbrev Inv-loop : tie.InvT-loop
 Inv-loop top state task ceilings k₀ k =
-    (k ≤ 16) × (some (λ k. bars ceilings (task .deadline .0) (jobAt state k .held) && (jobAt state k .pending && not (eqb k top))) k ≡ false)
+    (k ≤ 16) × (some (stands ceilings state (task .deadline .0) top) k ≡ false)
 
 abbrev μ-loop : tie.MeasureT-loop
 μ-loop top state task ceilings k₀ k = 16 - k
@@ -52,10 +71,7 @@ in-way-requires : tie.Need-in-way-requires Inv-loop μ-loop
 in-way-requires c κs = search needs
 
 returns-2 : tie.Need-returns-2 Inv-loop μ-loop
-unfolding blocked
-returns-2 c =
-    let l = c .before .before .before .before .loop in
-    rw (c .before .before .before .before .before .before .before .if1 .left, ← c .before .before .before .before .before .ceilings .ensures) (sym (some-holds _ 16 (l .k) (omega arith) (sym (c .before .in-way .ensures) ∙ c .if2 .taken)))
+returns-2 c = search one
 
 add-k : tie.Need-add-k Inv-loop μ-loop
 add-k c = search needs
@@ -64,14 +80,10 @@ loop-less : tie.Need-loop-less Inv-loop μ-loop
 loop-less c = search needs
 
 loop-again : tie.Need-loop-again Inv-loop μ-loop
-loop-again c =
-    let l = c .before .before .before .before .loop in (omega arith, sym (some-next _ (l .k) (sym (l .inv .1)) (rw (← c .before .in-way .ensures, c .if2 .left))))
+loop-again c = (omega arith, search none-yet)
 
 returns-3 : tie.Need-returns-3 Inv-loop μ-loop
-unfolding blocked
-returns-3 c =
-    let e : c .before .loop .k ≡ 16 = omega arith in
-    rw (c .before .before .before .before .if1 .left, ← c .before .before .ceilings .ensures) (sym (rw e at (c .before .loop .inv .1)))
+returns-3 c = search none
 
 pub blocked-spec : {M : Type 1} → statement M
 blocked-spec =
