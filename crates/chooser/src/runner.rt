@@ -32,16 +32,22 @@ fn ceiling(ceilings: [Ticks; 8], resource: u8) -> Ticks
     Ticks(0)
 }
 
-// The job stands in the way of a level: it is another, it is there, and it holds a resource whose ceiling is at most the deadline.
+// What is held has a ceiling that is at most the deadline.
+fn bars(ceilings: [Ticks; 8], deadline: Ticks, held: Held) -> bool
+    ensures { λ r. ⌜ r ≡ bars ceilings (deadline .0) held ⌝ }
+{
+    match held {
+        Held::Nothing => false,
+        Held::In(section) => ceiling(ceilings, section.resource).0 <= deadline.0,
+    }
+}
+
+// The job stands in the way of a level: it is another, it is there, and what it holds bars the level.
 fn in_way(ceilings: [Ticks; 8], job: Job, deadline: Ticks, other: bool) -> bool
     ensures { λ r. ⌜ r ≡ bars ceilings (deadline .0) (job .held) && (job .pending && other) ⌝ }
 {
     let held = job.held;
-    match held {
-        Held::Nothing => false,
-        Held::In(section) => ceiling(ceilings, section.resource).0 <= deadline.0
-            && (job.pending && other),
-    }
+    bars(ceilings, deadline, held) && (job.pending && other)
 }
 
 fn blocked(table: Table, state: State, top: usize) -> bool
