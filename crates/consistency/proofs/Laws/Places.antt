@@ -88,14 +88,15 @@ module _ (t : Table) (s : State) where
           go Nothing q h o = false≢true h
           go (In y) q h o = let v = taken-tells s n y h in omega (arith, v .2, o (v .0) n (v .1) y (omega (arith, v .2)) l (v .3) q (v .4))
 
-      pub walk-next : {m′ : ℕ} → length (taskAt t n .limits) ≡ 8 → positionFits t s n ≡ true → isTaken m (held n) ≡ false → m′ ≡ withHeld m (held n) → Walked m′ (n + 1)
-      walk-next e f h j = record {
-        within = omega arith;
-        set = j ∙ ap (λ (m : ℕ). withHeld m (held n)) (w .set) ∙ held-next s n (held n) refl;
-        fits = sym (all-next (positionFits t s) n (sym (w .fits)) (sym f));
-        once = once-next s n (w .once) (λ i x y b p q.
-            free-tells s n y (omega (arith, one-of-8 n e f y q)) (ap (isTaken (heldBelow s n)) (sym q) ∙ sym (ap (λ (m : ℕ). isTaken m (held n)) (w .set)) ∙ h) i x b p);
-      }
+  pub walk-next : {m m′ n : ℕ} → m′ ≡ withHeld m (held n) → isTaken m (held n) ≡ false → positionFits t s n ≡ true → length (taskAt t n .limits) ≡ 8 → n < 16 → Walked m n
+      → Walked m′ (n + 1)
+  walk-next {m} {m′} {n} j h f e l w = record {
+    within = omega arith;
+    set = j ∙ ap (λ (m : ℕ). withHeld m (held n)) (w .set) ∙ held-next s n (held n) refl;
+    fits = sym (all-next (positionFits t s) n (sym (w .fits)) (sym f));
+    once = once-next s n (w .once) (λ i x y b p q.
+        free-tells s n y (omega (arith, one-of-8 n e f y q)) (ap (isTaken (heldBelow s n)) (sym q) ∙ sym (ap (λ (m : ℕ). isTaken m (held n)) (w .set)) ∙ h) i x b p);
+  }
 
   pub walk-end : {m n : ℕ} → Walked m n → 16 ≤ n → true ≡ positionsFit t s
   walk-end {m} {n} w l = let e : n ≡ 16 = omega arith in sym (places-hold (rw e at (w .fits)) (rw e at (w .once)))

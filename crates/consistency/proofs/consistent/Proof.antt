@@ -1,10 +1,22 @@
-use borrow.Author.Tests.{eq-eqb, ne-eqb}
-use Rattle.units.proofs.Laws.Tests.{passed, failed}
+use Prim.Native.Nat.{ℕ}
+use mathlib.Core.Path.{_≡_}
+use mathlib.Core.Bool.{Bool}
+use lib.Dec.{eqb}
+use Rattle.verdict.specs.declared.Verdict.{Verdict}
+use Rattle.verdict.specs.Verdict.{answer}
+use Rattle.table.specs.declared.Table.{Table}
+use Rattle.admission.specs.Admission.{verdict}
 use Rattle.state.specs.State.{passes}
 use Rattle.consistency.specs.Consistency.{consistent}
+use Rattle.units.proofs.Laws.Tests.{tests}
 use borrow.Author.Needs.{needs}
 use Rattle.consistency.proofs.consistent.Statement.{statement}
 use Rattle.consistency.proofs.consistent.Tie as tie
+
+-- that the table passes is asked of the number that was found
+passes-by : (t : Table) {v : Verdict} {n : ℕ} {b : Bool} → v ≡ verdict t → n ≡ answer v .0 → eqb n 0 ≡ b → passes t ≡ b
+unfolding passes
+passes-by t e m h = rw (← e, ← m) h
 
 verdict-of-requires : tie.Need-verdict-of-requires
 verdict-of-requires c κs = search needs
@@ -13,29 +25,29 @@ number-requires : tie.Need-number-requires
 number-requires c κs = search needs
 
 returns : tie.Need-returns
-unfolding passes consistent
-returns c = rw (← c .before .before .verdict-of .ensures, ← c .before .number .ensures, ne-eqb _ _ (c .if1 .taken))
+unfolding consistent
+returns c = search (passes-by, tests)
 
 positions-fit-requires : tie.Need-positions-fit-requires
 positions-fit-requires c κs = search needs
 
 returns-2 : tie.Need-returns-2
-unfolding passes consistent
-returns-2 c = rw (← c .before .before .before .before .verdict-of .ensures, ← c .before .before .before .number .ensures, eq-eqb _ _ (c .before .before .if1 .left), failed (c .before .positions-fit .ensures) (c .if2 .taken))
+unfolding consistent
+returns-2 c = search (passes-by, tests)
 
 mark-fits-requires : tie.Need-mark-fits-requires
 mark-fits-requires c κs = search needs
 
 returns-3 : tie.Need-returns-3
-unfolding passes consistent
-returns-3 c = rw (← c .before .before .before .before .before .before .verdict-of .ensures, ← c .before .before .before .before .before .number .ensures, eq-eqb _ _ (c .before .before .before .before .if1 .left), passed (c .before .before .before .positions-fit .ensures) (c .before .before .if2 .left), failed (c .before .mark-fits .ensures) (c .if3 .taken))
+unfolding consistent
+returns-3 c = search (passes-by, tests)
 
 half-fits-requires : tie.Need-half-fits-requires
 half-fits-requires c κs = search needs
 
 returns-4 : tie.Need-returns-4
-unfolding passes consistent
-returns-4 c = rw (← c .before .before .before .before .before .before .before .verdict-of .ensures, ← c .before .before .before .before .before .before .number .ensures, eq-eqb _ _ (c .before .before .before .before .before .if1 .left), passed (c .before .before .before .before .positions-fit .ensures) (c .before .before .before .if2 .left), passed (c .before .before .mark-fits .ensures) (c .before .if3 .left)) (c .half-fits .ensures)
+unfolding consistent
+returns-4 c = search (passes-by, tests)
 
 pub consistent-spec : {M : Type 1} → statement M
 consistent-spec =

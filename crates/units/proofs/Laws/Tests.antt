@@ -1,7 +1,9 @@
 -- What a test that a function made says of its rule. Assumes nothing.
 use mathlib.Core.Path.{_≡_, sym, ap, _∙_}
-use mathlib.Core.Bool.{Bool, true, false, not, cond}
-use borrow.Author.Tests.{not-true, not-false}
+use mathlib.Core.Bool.{Bool, true, false, not, _&&_, _||_, cond}
+use borrow.Author.Tests.{not-true, not-false, lt-ltb, le-ltb, le-leb, lt-leb, eq-eqb, ne-eqb}
+
+-- ---- r is what a function gave for b
 
 module _ {r b : Bool} (e : r ≡ b) where
   pub passed : not r ≡ false → b ≡ true
@@ -10,6 +12,18 @@ module _ {r b : Bool} (e : r ≡ b) where
   pub failed : not r ≡ true → b ≡ false
   failed h = sym e ∙ not-true r h
 
+  pub told-true : r ≡ true → b ≡ true
+  told-true h = sym e ∙ h
+
+  pub told-false : r ≡ false → b ≡ false
+  told-false h = sym e ∙ h
+
+  pub told-not : not r ≡ not b
+  told-not = ap not e
+
+  pub not-told : {v : Bool} → not r ≡ v → not b ≡ v
+  not-told h = sym (ap not e) ∙ h
+
 -- the arm that a test chooses
 module _ {A : Type 0} (x y : A) {b : Bool} where
   pub cond-yes : b ≡ true → cond b x y ≡ x
@@ -17,3 +31,47 @@ module _ {A : Type 0} (x y : A) {b : Bool} where
 
   pub cond-no : b ≡ false → cond b x y ≡ y
   cond-no e = ap (λ (b : Bool). cond b x y) e
+
+-- ---- r is what a rule gives: the first test decides, or it passes on to the rest
+
+module _ (r a b : Bool) where
+  pub and-first : a ≡ false → r ≡ false → r ≡ (a && b)
+  and-first e h = h ∙ sym (ap (λ (a : Bool). a && b) e)
+
+  pub and-rest : a ≡ true → r ≡ b → r ≡ (a && b)
+  and-rest e h = h ∙ sym (ap (λ (a : Bool). a && b) e)
+
+  pub or-first : a ≡ true → r ≡ true → r ≡ (a || b)
+  or-first e h = h ∙ sym (ap (λ (a : Bool). a || b) e)
+
+  pub or-rest : a ≡ false → r ≡ b → r ≡ (a || b)
+  or-rest e h = h ∙ sym (ap (λ (a : Bool). a || b) e)
+
+module _ {A : Type 0} (r x y : A) (b : Bool) where
+  pub cond-first : b ≡ true → r ≡ x → r ≡ cond b x y
+  cond-first e h = h ∙ sym (cond-yes x y e)
+
+  pub cond-rest : b ≡ false → r ≡ y → r ≡ cond b x y
+  cond-rest e h = h ∙ sym (cond-no x y e)
+
+-- `search tests` at a return: follows the rule, and finds what the tests on the way said wherever it stands in the record of the place
+pub ruleset tests = (
+  and-first,
+  and-rest,
+  or-first,
+  or-rest,
+  cond-first,
+  cond-rest,
+  passed,
+  failed,
+  told-true,
+  told-false,
+  told-not,
+  not-told,
+  lt-ltb,
+  le-ltb,
+  le-leb,
+  lt-leb,
+  eq-eqb,
+  ne-eqb,
+)

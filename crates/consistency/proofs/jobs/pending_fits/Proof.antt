@@ -1,8 +1,21 @@
-use borrow.Author.Tests.{lt-ltb, le-ltb, le-leb, lt-leb}
+use Prim.Native.Nat.{ℕ, _+_, _-_}
+use mathlib.Core.Path.{_≡_}
+use mathlib.Core.Bool.{Bool, _&&_}
+use lib.Dec.{ltb, leb, eqb}
+use Rattle.units.specs.Clock.{distance}
+use Rattle.table.specs.declared.Task.{Task}
+use Rattle.state.specs.declared.Job.{Job}
 use Rattle.consistency.specs.Consistency.{pendingFits}
+use Rattle.units.proofs.Laws.Tests.{tests}
 use borrow.Author.Needs.{needs}
 use Rattle.consistency.proofs.jobs.pending_fits.Statement.{statement}
 use Rattle.consistency.proofs.jobs.pending_fits.Tie as tie
+
+-- the rule, over the numbers that were found
+by : (task : Task) (now : ℕ) (j : Job) {ahead rest : ℕ} {r : Bool} → ahead ≡ distance now (j .deadline .0) → rest ≡ task .period .0 - task .deadline .0
+    → r ≡ (ltb (j .used .0) (task .budget .0) && (leb 1 ahead && (leb ahead (task .deadline .0) && eqb (j .wait .0) (ahead + rest)))) → r ≡ pendingFits task now j
+unfolding pendingFits
+by task now j e f h = rw (← e, ← f) h
 
 distance-requires : tie.Need-distance-requires
 distance-requires c κs = search needs
@@ -23,20 +36,16 @@ add-result : tie.Need-add-result
 add-result c = search needs
 
 returns : tie.Need-returns
-unfolding pendingFits
-returns c = rw (← c .before .before .before .before .before .before .before .before .distance .ensures, lt-ltb _ _ (c .before .before .before .if1 .taken), le-leb _ _ (c .before .before .if2 .taken), le-leb _ _ (c .before .if3 .taken), c .before .before .before .before .before .before .after-deadline .ensures)
+returns c = search (by, tests)
 
 returns-2 : tie.Need-returns-2
-unfolding pendingFits
-returns-2 c = rw (← c .before .before .before .before .before .before .before .distance .ensures, lt-ltb _ _ (c .before .before .if1 .taken), le-leb _ _ (c .before .if2 .taken), lt-leb _ _ (c .if3 .left))
+returns-2 c = search (by, tests)
 
 returns-3 : tie.Need-returns-3
-unfolding pendingFits
-returns-3 c = rw (← c .before .before .before .before .before .before .distance .ensures, lt-ltb _ _ (c .before .if1 .taken), lt-leb _ _ (c .if2 .left))
+returns-3 c = search (by, tests)
 
 returns-4 : tie.Need-returns-4
-unfolding pendingFits
-returns-4 c = rw (le-ltb _ _ (c .if1 .left))
+returns-4 c = search (by, tests)
 
 pub pending-fits-spec : {M : Type 1} → statement M
 pending-fits-spec =

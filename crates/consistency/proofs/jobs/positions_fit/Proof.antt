@@ -1,9 +1,8 @@
 use Prim.Native.Nat.{_-_}
-use mathlib.Core.Path.{sym, _∙_}
 use native.Mathlib.Omega.{arith}
 use Rattle.consistency.specs.Consistency.{positionFits}
-use Rattle.units.proofs.Laws.Tests.{passed, failed}
 use Rattle.consistency.proofs.Laws.Places.{Walked, walk-none, walk-unfit, walk-taken, walk-next, walk-end}
+use Rattle.units.proofs.Laws.Tests.{passed, failed, told-true, told-false}
 use borrow.Author.Needs.{needs}
 use Rattle.consistency.proofs.jobs.positions_fit.Statement.{statement}
 use Rattle.consistency.proofs.jobs.positions_fit.Tie as tie
@@ -34,13 +33,13 @@ position-fits-requires c κs = search needs
 
 returns : tie.Need-returns Inv-loop μ-loop
 unfolding positionFits
-returns c = walk-unfit _ _ (c .before .before .before .before .before .loop-test .taken) (failed (c .before .position-fits .ensures .0) (c .if1 .taken))
+returns c = search (walk-unfit, failed)
 
 is-taken-requires : tie.Need-is-taken-requires Inv-loop μ-loop
 is-taken-requires c κs = search needs
 
 returns-2 : tie.Need-returns-2 Inv-loop μ-loop
-returns-2 c = walk-taken _ _ (c .before .before .before .before .before .before .before .loop-test .taken) (c .before .before .before .before .before .before .before .before .loop .inv) (sym (c .before .is-taken .ensures) ∙ c .if2 .taken)
+returns-2 c = search (walk-taken, told-true)
 
 join-requires : tie.Need-join-requires Inv-loop μ-loop
 join-requires c κs = search needs
@@ -53,7 +52,7 @@ loop-less c = search needs
 
 loop-again : tie.Need-loop-again Inv-loop μ-loop
 unfolding positionFits
-loop-again c = let l = c .before .before .before .before .before .before .before .before .before .loop in let f = c .before .before .before .before .position-fits .ensures in walk-next _ _ (c .before .before .before .before .before .before .before .before .loop-test .taken) (l .inv) (f .1) (passed (f .0) (c .before .before .before .if1 .left)) (sym (c .before .before .is-taken .ensures) ∙ c .before .if2 .left) (c .join .ensures)
+loop-again c = walk-next _ _ (c .join .ensures) (search told-false) (search passed) (search) (search) (search)
 
 returns-3 : tie.Need-returns-3 Inv-loop μ-loop
 returns-3 c = walk-end _ _ (c .before .loop .inv) (omega arith)

@@ -1,4 +1,5 @@
 use Rattle.consistency.specs.Consistency.{unchanged}
+use Rattle.units.proofs.Laws.Tests.{tests}
 use borrow.Author.Needs.{needs}
 use Rattle.consistency.proofs.middle.unchanged.Statement.{statement}
 use Rattle.consistency.proofs.middle.unchanged.Tie as tie
@@ -14,15 +15,15 @@ has-begun-requires c κs = search needs
 
 returns : tie.Need-returns
 unfolding unchanged
-returns c = rw (← c .before .before .before .before .same-runner .ensures, c .before .before .before .if1 .taken, ← c .before .before .same-mark .ensures, c .before .if2 .taken) (c .has-begun .ensures)
+returns c = search tests
 
 returns-2 : tie.Need-returns-2
 unfolding unchanged
-returns-2 c = rw (← c .before .before .before .same-runner .ensures, c .before .before .if1 .taken, ← c .before .same-mark .ensures, c .if2 .left)
+returns-2 c = search tests
 
 returns-3 : tie.Need-returns-3
 unfolding unchanged
-returns-3 c = rw (← c .before .same-runner .ensures, c .if1 .left)
+returns-3 c = search tests
 
 pub unchanged-spec : {M : Type 1} → statement M
 unchanged-spec =
