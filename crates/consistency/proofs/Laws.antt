@@ -1,4 +1,5 @@
 pub mod Facts
+pub mod Found
 pub mod Held
 pub mod Jobs
 pub mod Middle

@@ -1,19 +1,7 @@
-use mathlib.Core.Path.{_≡_}
-use mathlib.Core.Bool.{Bool}
-use Rattle.table.specs.declared.Table.{Table}
-use Rattle.state.specs.declared.State.{State}
-use Rattle.state.specs.declared.Half.{Half}
-use Rattle.state.specs.declared.Half.the-variants.{Second}
-use Rattle.choice.specs.declared.Turn.{Turn}
-use Rattle.choice.specs.Choice.{turn}
-use Rattle.consistency.specs.Consistency.{unchanged, halfFits}
+use Rattle.consistency.proofs.Laws.Found.{found-second}
 use borrow.Author.Needs.{needs}
 use Rattle.consistency.proofs.half_fits.Statement.{statement}
 use Rattle.consistency.proofs.half_fits.Tie as tie
-
--- the rule, over the half and the turn that were found
-by : (t : Table) (s : State) {h : Half} {u : Turn} {r : Bool} → h ≡ Second → u ≡ turn t s → r ≡ unchanged s u → r ≡ halfFits t s h
-by t s e f h = rw (e, ← f) h
 
 enum-told : tie.Need-enum-told
 enum-told c = search needs
@@ -34,7 +22,7 @@ returns : tie.Need-returns
 returns c = search needs
 
 returns-2 : tie.Need-returns-2
-returns-2 c = search by
+returns-2 c = search found-second
 
 pub half-fits-spec : {M : Type 1} → statement M
 half-fits-spec =

@@ -1,18 +1,8 @@
-use mathlib.Core.Path.{_≡_}
-use mathlib.Core.Bool.{Bool, _&&_}
-use lib.Dec.{eqb}
-use Rattle.state.specs.declared.Place.{Place}
-use Rattle.state.specs.declared.Mark.{Mark}
-use Rattle.state.specs.declared.Mark.the-variants.{At}
-use Rattle.consistency.specs.Consistency.{sameMark}
 use Rattle.units.proofs.Laws.Tests.{tests}
+use Rattle.consistency.proofs.Laws.Found.{found-marks}
 use borrow.Author.Needs.{needs}
 use Rattle.consistency.proofs.middle.same_mark.Statement.{statement}
 use Rattle.consistency.proofs.middle.same_mark.Tie as tie
-
--- the rule, over the places that were found
-by : {a b : Mark} {l m : Place} {r : Bool} → a ≡ At l → b ≡ At m → r ≡ (eqb (l .deadline .0) (m .deadline .0) && eqb (l .position) (m .position)) → r ≡ sameMark a b
-by e f h = rw (e, f) h
 
 enum-told : tie.Need-enum-told
 enum-told c = search needs
@@ -42,10 +32,10 @@ returns-3 : tie.Need-returns-3
 returns-3 c = search needs
 
 returns-4 : tie.Need-returns-4
-returns-4 c = search (by, tests)
+returns-4 c = search (found-marks, tests)
 
 returns-5 : tie.Need-returns-5
-returns-5 c = search (by, tests)
+returns-5 c = search (found-marks, tests)
 
 pub same-mark-spec : {M : Type 1} → statement M
 same-mark-spec =

@@ -1,17 +1,7 @@
-use Prim.Native.Nat.{ℕ}
-use mathlib.Core.Path.{_≡_}
-use mathlib.Core.Bool.{Bool}
-use lib.Dec.{eqb}
-use Rattle.state.specs.declared.Runner.{Runner}
-use Rattle.state.specs.declared.Runner.the-variants.{Job}
-use Rattle.consistency.specs.Consistency.{sameRunner}
+use Rattle.consistency.proofs.Laws.Found.{found-runners}
 use borrow.Author.Needs.{needs}
 use Rattle.consistency.proofs.middle.same_runner.Statement.{statement}
 use Rattle.consistency.proofs.middle.same_runner.Tie as tie
-
--- the rule, over the positions that were found
-by : {a b : Runner} {p q : ℕ} {r : Bool} → a ≡ Job p → b ≡ Job q → r ≡ eqb p q → r ≡ sameRunner a b
-by e f h = rw (e, f) h
 
 enum-told : tie.Need-enum-told
 enum-told c = search needs
@@ -41,7 +31,7 @@ returns-3 : tie.Need-returns-3
 returns-3 c = search needs
 
 returns-4 : tie.Need-returns-4
-returns-4 c = search by
+returns-4 c = search found-runners
 
 pub same-runner-spec : {M : Type 1} → statement M
 same-runner-spec =

@@ -1,0 +1,78 @@
+-- Each rule, over what a function finds on its way (a variant, a number that another function gives): where `search` goes on to the tests. Assumes nothing.
+use Prim.Native.Nat.{ℕ, _+_, _-_, _≤_}
+use mathlib.Core.Path.{_≡_, sym, ap}
+use mathlib.Core.Bool.{Bool, false, _&&_}
+use native.Mathlib.Omega.{arith}
+use lib.Dec.{ltb, leb, eqb}
+use lib.ListN.{length, List·getD-eq-default}
+use Rattle.units.specs.declared.Steps.{Steps}
+use Rattle.units.specs.Amounts.{steps}
+use Rattle.units.specs.Clock.{distance}
+use Rattle.units.specs.Sets.{has}
+use Rattle.verdict.specs.declared.Verdict.{Verdict}
+use Rattle.verdict.specs.Verdict.{answer}
+use Rattle.table.specs.declared.Task.{Task}
+use Rattle.table.specs.declared.Table.{Table}
+use Rattle.table.specs.Table.{limit}
+use Rattle.admission.specs.Admission.{verdict}
+use Rattle.state.specs.declared.Job.{Job}
+use Rattle.state.specs.declared.Section.{Section}
+use Rattle.state.specs.declared.Held.{Held}
+use Rattle.state.specs.declared.Held.the-variants.{In}
+use Rattle.state.specs.declared.Place.{Place}
+use Rattle.state.specs.declared.Mark.{Mark}
+use Rattle.state.specs.declared.Mark.the-variants.{At}
+use Rattle.state.specs.declared.Half.{Half}
+use Rattle.state.specs.declared.Half.the-variants.{Second}
+use Rattle.state.specs.declared.Runner.{Runner}
+use Rattle.state.specs.declared.Runner.the-variants as Runs
+use Rattle.state.specs.declared.State.{State}
+use Rattle.state.specs.State.{noJob, jobAt, passes}
+use Rattle.choice.specs.declared.Turn.{Turn}
+use Rattle.choice.specs.Choice.{turn}
+use Rattle.consistency.specs.Consistency.{pendingFits, heldFits, isTaken, markFits, sameRunner, sameMark, hasBegun, unchanged, halfFits}
+
+pub found-passes : (t : Table) {v : Verdict} {n : ℕ} {r : Bool} → v ≡ verdict t → n ≡ answer v .0 → eqb n 0 ≡ r → passes t ≡ r
+unfolding passes
+found-passes t e f h = rw (← e, ← f) h
+
+-- ---- a job
+
+pub found-pending : (task : Task) (now : ℕ) (j : Job) {ahead rest : ℕ} {r : Bool} → ahead ≡ distance now (j .deadline .0) → rest ≡ task .period .0 - task .deadline .0
+    → r ≡ (ltb (j .used .0) (task .budget .0) && (leb 1 ahead && (leb ahead (task .deadline .0) && eqb (j .wait .0) (ahead + rest)))) → r ≡ pendingFits task now j
+unfolding pendingFits
+found-pending task now j e f h = rw (← e, ← f) h
+
+pub found-held : (task : Task) {h : Held} {x : Section} {l : Steps} {r : Bool} → h ≡ In x → l ≡ steps (limit task (x .resource))
+    → r ≡ (ltb 0 (l .0) && ltb (x .steps .0) (l .0)) → r ≡ heldFits task h
+found-held task e f h = rw e (rw f at h)
+
+pub found-taken : (m : ℕ) {h : Held} {x : Section} {r : Bool} → h ≡ In x → r ≡ has m (x .resource) → r ≡ isTaken m h
+found-taken m e h = rw e h
+
+-- ---- the mark
+
+pub found-mark : (count now : ℕ) {k : Mark} {m : Place} {r : Bool} → k ≡ At m → r ≡ (ltb (m .position) count && leb (distance now (m .deadline .0)) 65535)
+    → r ≡ markFits count now k
+found-mark count now e h = rw e h
+
+pub found-distance : {d e : ℕ} → d ≡ e → leb d 65535 ≡ leb e 65535
+found-distance e = rw e
+
+-- ---- the middle of a tick
+
+pub found-runners : {a b : Runner} {p q : ℕ} {r : Bool} → a ≡ Runs.Job p → b ≡ Runs.Job q → r ≡ eqb p q → r ≡ sameRunner a b
+found-runners e f h = rw (e, f) h
+
+pub found-marks : {a b : Mark} {l m : Place} {r : Bool} → a ≡ At l → b ≡ At m → r ≡ (eqb (l .deadline .0) (m .deadline .0) && eqb (l .position) (m .position)) → r ≡ sameMark a b
+found-marks e f h = rw (e, f) h
+
+module _ (s : State) {a : Runner} {p : ℕ} (e : a ≡ Runs.Job p) where
+  pub found-begun : {r : Bool} → r ≡ jobAt s p .started → r ≡ hasBegun s a
+  found-begun h = rw e h
+
+  pub found-past : 16 ≤ p → length (s .jobs) ≡ 16 → false ≡ hasBegun s a
+  found-past l long = found-begun (sym (ap (λ (j : Job). j .started) (List·getD-eq-default (s .jobs) noJob (omega arith))))
+
+pub found-second : (t : Table) (s : State) {h : Half} {u : Turn} {r : Bool} → h ≡ Second → u ≡ turn t s → r ≡ unchanged s u → r ≡ halfFits t s h
+found-second t s e f h = rw (e, ← f) h
