@@ -3,10 +3,11 @@ use Prim.Native.Nat.{ℕ, _≤_, _<_, zero-le}
 use mathlib.Core.Path.{_≡_, refl, sym, ap, _∙_}
 use mathlib.Core.Bool.{Bool, true, false, false≢true}
 use native.Mathlib.Omega.{arith}
-use borrow.Author.Tests.{lt-ltb, le-leb, eq-eqb, ltb-true, leb-true, eqb-true}
+use borrow.Author.Tests.{eq-eqb, eqb-true}
 use Rattle.units.specs.declared.Tick.{Tick}
 use Rattle.units.specs.Clock.{distance}
 use Rattle.units.proofs.Laws.Folds.{both, all-tells, all-holds}
+use Rattle.units.proofs.Laws.Tests.{tests, parts}
 use Rattle.verdict.specs.Verdict.{answer}
 use Rattle.table.specs.declared.Task.{Task}
 use Rattle.table.specs.declared.Table.{Table}
@@ -56,11 +57,11 @@ pub record Consistent (t : Table) (s : State) : Type 0 where
 -- ---- the mark
 
 mark-tells : (count now : ℕ) (k : Mark) → markFits count now k ≡ true → (m : Place) → k ≡ At m → MarkFits count now m
-mark-tells count now k h m e = let w = both _ _ (sym (ap (markFits count now) e) ∙ h) in record { position = ltb-true _ _ (w .0); ahead = leb-true _ _ (w .1) }
+mark-tells count now k h m e = let w = sym (ap (markFits count now) e) ∙ h in search parts
 
 mark-holds : (count now : ℕ) (k : Mark) → ((m : Place) → k ≡ At m → MarkFits count now m) → markFits count now k ≡ true
 mark-holds count now Absent f = refl
-mark-holds count now (At m) f = let w = f m refl in simp (lt-ltb _ _ (w .position), le-leb _ _ (w .ahead))
+mark-holds count now (At m) f = let w = f m refl in search tests
 
 -- ---- the middle of a tick
 

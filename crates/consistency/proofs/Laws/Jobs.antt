@@ -6,7 +6,7 @@ use native.Mathlib.Decide.{decLt}
 use native.Mathlib.Nat.{le-trans, le-of-eq}
 use native.Mathlib.Omega.{arith}
 use lib.ListN.{length, List·getD-eq-default}
-use borrow.Author.Tests.{lt-ltb, le-leb, eq-eqb, ltb-true, leb-true, eqb-true, not-true}
+use borrow.Author.Tests.{le-leb, leb-true, eqb-true, not-true}
 use Rattle.units.specs.declared.Steps.{Steps}
 use Rattle.units.specs.Amounts.{steps}
 use Rattle.units.specs.Clock.{distance}
@@ -20,7 +20,7 @@ use Rattle.state.specs.declared.Held.the-variants.{Nothing, In}
 use Rattle.state.specs.State.{noJob}
 use Rattle.state.specs.Order.{holdsAny}
 use Rattle.consistency.specs.Consistency.{notPendingFits, pendingFits, startedFits, heldFits, waitFits, jobFits, unused}
-use Rattle.units.proofs.Laws.Tests.{cond-yes, cond-no}
+use Rattle.units.proofs.Laws.Tests.{tests, parts, cond-yes, cond-no}
 
 -- ---- the facts
 
@@ -64,27 +64,19 @@ nothing-held e = ap (λ (h : Held). not (holdsAny h)) e
 
 pub pending-tells : (task : Task) (now : ℕ) (j : Job) → pendingFits task now j ≡ true → PendingFits task now j
 unfolding pendingFits
-pending-tells task now j h =
-    let u = both _ _ h in
-    let a = both _ _ (u .1) in
-    let n = both _ _ (a .1) in
-    record { used = ltb-true _ _ (u .0); ahead = leb-true _ _ (a .0); near = leb-true _ _ (n .0); wait = eqb-true _ _ (n .1) }
+pending-tells task now j h = search parts
 
 pub pending-holds : (task : Task) (now : ℕ) (j : Job) → PendingFits task now j → pendingFits task now j ≡ true
 unfolding pendingFits
-pending-holds task now j h = simp (lt-ltb _ _ (h .used), le-leb _ _ (h .ahead), le-leb _ _ (h .near), eq-eqb _ _ (h .wait))
+pending-holds task now j h = search tests
 
 pub absent-tells : (j : Job) → notPendingFits j ≡ true → NotPendingFits j
 unfolding notPendingFits
-absent-tells j h =
-    let s = both _ _ h in
-    let u = both _ _ (s .1) in
-    let n = both _ _ (u .1) in
-    record { started = not-true _ (s .0); used = eqb-true _ _ (u .0); held = holds-nothing _ (n .0); deadline = eqb-true _ _ (n .1) }
+absent-tells j h = search (holds-nothing, parts)
 
 pub absent-holds : (j : Job) → NotPendingFits j → notPendingFits j ≡ true
 unfolding notPendingFits
-absent-holds j h = simp (h .started, eq-eqb _ _ (h .used), nothing-held (h .held), eq-eqb _ _ (h .deadline))
+absent-holds j h = search (nothing-held, tests)
 
 other : (a b : Bool) → (a || b) ≡ true → a ≡ false → b ≡ true
 other true b h e = absurd (false≢true (sym e))
@@ -92,7 +84,7 @@ other false b h e = h
 
 unstarted-tells : (j : Job) → startedFits j ≡ true → j .started ≡ false → UnstartedFits j
 unfolding startedFits
-unstarted-tells j h e = let w = both _ _ (other _ _ h e) in record { used = eqb-true _ _ (w .0); held = holds-nothing _ (w .1) }
+unstarted-tells j h e = let w = other _ _ h e in search (holds-nothing, parts)
 
 started-holds : (j : Job) → (j .started ≡ false → UnstartedFits j) → startedFits j ≡ true
 unfolding startedFits
@@ -100,14 +92,14 @@ started-holds j h = go (j .started) refl
   where
     go : (b : Bool) → j .started ≡ b → startedFits j ≡ true
     go true e = simp (e)
-    go false e = let w = h e in simp (e, eq-eqb _ _ (w .used), nothing-held (w .held))
+    go false e = let w = h e in sym (search (nothing-held, tests))
 
 section-tells : (task : Task) (h : Held) → heldFits task h ≡ true → (x : Section) → h ≡ In x → SectionFits task x
-section-tells task h e x i = let w = both _ _ (sym (ap (heldFits task) i) ∙ e) in record { taken = ltb-true _ _ (w .0); steps = ltb-true _ _ (w .1) }
+section-tells task h e x i = let w = sym (ap (heldFits task) i) ∙ e in search parts
 
 section-holds : (task : Task) (h : Held) → ((x : Section) → h ≡ In x → SectionFits task x) → heldFits task h ≡ true
 section-holds task Nothing f = refl
-section-holds task (In x) f = let w = f x refl in simp (lt-ltb _ _ (w .taken), lt-ltb _ _ (w .steps))
+section-holds task (In x) f = let w = f x refl in search tests
 
 pub job-tells : (task : Task) (now : ℕ) (j : Job) → jobFits task now j ≡ true → JobFits task now j
 unfolding jobFits waitFits

@@ -1,7 +1,7 @@
 -- What a test that a function made says of its rule. Assumes nothing.
-use mathlib.Core.Path.{_≡_, sym, ap, _∙_}
-use mathlib.Core.Bool.{Bool, true, false, not, _&&_, _||_, cond}
-use borrow.Author.Tests.{not-true, not-false, lt-ltb, le-ltb, le-leb, lt-leb, eq-eqb, ne-eqb}
+use mathlib.Core.Path.{_≡_, refl, sym, ap, _∙_}
+use mathlib.Core.Bool.{Bool, true, false, not, _&&_, _||_, cond, false≢true}
+use borrow.Author.Tests.{not-true, not-false, lt-ltb, le-ltb, le-leb, lt-leb, eq-eqb, ne-eqb, ltb-true, leb-true, eqb-true}
 
 -- ---- r is what a function gave for b
 
@@ -54,10 +54,25 @@ module _ {A : Type 0} (r x y : A) (b : Bool) where
   pub cond-rest : b ≡ false → r ≡ y → r ≡ cond b x y
   cond-rest e h = h ∙ sym (cond-no x y e)
 
--- `search tests` at a return: follows the rule, and finds what the tests on the way said wherever it stands in the record of the place
+-- ---- a conjunction, and its parts
+
+pub and-true : (a b : Bool) → a ≡ true → b ≡ true → (a && b) ≡ true
+and-true a b e f = ap (λ (a : Bool). a && b) e ∙ f
+
+pub and-left : (a b : Bool) → (a && b) ≡ true → a ≡ true
+and-left true b h = refl
+and-left false b h = h
+
+pub and-right : (a b : Bool) → (a && b) ≡ true → b ≡ true
+and-right true b h = h
+and-right false b h = absurd (false≢true h)
+
+-- `search tests` at a return follows the rule, and finds what the tests on the way said wherever it stands in the record of the place.
+-- It also makes a rule of the plain facts of a record; `search parts` makes the record of the rule.
 pub ruleset tests = (
   and-first,
   and-rest,
+  and-true,
   or-first,
   or-rest,
   cond-first,
@@ -75,3 +90,5 @@ pub ruleset tests = (
   eq-eqb,
   ne-eqb,
 )
+
+pub ruleset parts = (and-left, and-right, ltb-true, leb-true, eqb-true, not-true)
