@@ -10,41 +10,60 @@ use lib.ListN.{length, take, length-append}
 use lib.Seq.{length-take-le}
 use lib.Dec.{eqb}
 use borrow.Author.Tests.{eq-eqb, ne-eqb, lt-leb}
-use Rattle.verdict.specs.Verdict.{answer}
 use Rattle.table.specs.declared.Table.{Table}
+use Rattle.verdict.specs.Verdict.{answer}
 use Rattle.admission.specs.Admission.{verdict}
 use Rattle.units.specs.declared.Tick.{Tick}
 use Rattle.state.specs.{declared.State.State, declared.Start.Start, State.fresh}
 use Rattle.records.specs.{Records.eventCount, Records.wellFormed, Contents.table, Contents.start}
 use Rattle.lines.specs.declared.Line.the-variants as Line
 use Rattle.lines.specs.Lines.{text}
-use Rattle.lines.proofs.Laws.{Lengths.text-le, Whole.Written, Whole.written-laid, Following.Begins, Following.begins-first}
+use Rattle.lines.proofs.Laws.{Lengths.text-le, Whole.Written, Whole.Laid, Whole.written-laid, Whole.laid-written}
+use Rattle.lines.proofs.Laws.Following.{Begins, lentFrom, backAt, begins-first, begins-more}
 use Rattle.records.proofs.Laws.{lines-within}
 use Rattle.listing.specs.Listing.{page, listed, listing}
 use Rattle.listing.proofs.Laws.Events.{page-le}
 
--- the table's line, written, and the room for the events behind it
-pub first-line : {m : List ℕ} {r : ℕ} (l file : List ℕ) (n : ℕ) → 64 + 64 * eventCount file ≤ length l → Written 64 l (text (Line.Table n)) r m
-    → (Begins l (text (Line.Table n)) m r) × (r + 64 * eventCount file ≤ length m)
-first-line l file n h w =
-    let le = text-le (Line.Table n) in
-    let f = begins-first l (text (Line.Table n)) (omega arith) (written-laid 64 l (text (Line.Table n)) (omega arith) w) in
-    (f, omega (arith, f .1, f .2))
+-- what the table's line leaves: room for the events behind it, and with what follows the listing of the file
+pub record Begun (l file : List ℕ) (t : Table) (s : State) (n r : ℕ) (m : List ℕ) : Type 0 where
+  pub behind : r + 64 * eventCount file ≤ length m
+  pub fits : r + length (page file t s (eventCount file) .text) ≤ length m
+  pub stops : (n ≡ 0 → ⊥) → Laid l (listed file) r m
+  pub goes : {end : ℕ} {whole : List ℕ} → n ≡ 0 → Laid (lentFrom m r) (page file t s (eventCount file) .text) end whole → Laid l (listed file) (r + end) (backAt m r whole)
 
--- a table that does not pass, and one that does
-module _ (file : List ℕ) {t : Table} {now : Tick} {s : Start} {n : ℕ}
-    (reads : t ≡ table file) (begins : now ≡ start file) (starts : s ≡ fresh t now) (says : n ≡ answer (s .verdict) .0) where
-  number-is : n ≡ answer (verdict (table file)) .0
-  unfolding fresh
-  number-is = says ∙ rw (starts, reads) refl
+pub begun : {t : Table} {now : Tick} {s : Start} {n r : ℕ} {m : List ℕ} (l file : List ℕ) → 64 + 64 * eventCount file ≤ length l
+    → t ≡ table file → now ≡ start file → s ≡ fresh t now → n ≡ answer (s .verdict) .0 → Written 64 l (text (Line.Table n)) r m → Begun l file t (s .state) n r m
+unfolding listed fresh
+begun {t} {now} {s} {n} {r} {m} l file room reads begins starts says w = record { behind = behind; fits = fits; stops = stops; goes = goes }
+  where
+    line : List ℕ
+    line = text (Line.Table n)
 
-  pub listed-stops : (n ≡ 0 → ⊥) → listed file ≡ text (Line.Table n)
-  unfolding listed
-  listed-stops h = rw (← number-is, ne-eqb _ _ h) (append-nil _)
+    events : List ℕ
+    events = page file t (s .state) (eventCount file) .text
 
-  pub listed-goes : n ≡ 0 → listed file ≡ text (Line.Table n) ++ page file t (s .state) (eventCount file) .text
-  unfolding listed
-  listed-goes h = rw (← number-is, eq-eqb _ _ h, starts, begins, reads) refl
+    number : n ≡ answer (verdict (table file)) .0
+    number = says ∙ rw (starts, reads) refl
+
+    first : Begins l line m r
+    first = begins-first l line (omega (arith, text-le (Line.Table n))) (written-laid 64 l line (omega arith) w)
+
+    behind : r + 64 * eventCount file ≤ length m
+    behind = omega (arith, text-le (Line.Table n), first .1, first .2)
+
+    fits : r + length events ≤ length m
+    fits = omega (arith, behind, page-le file t (s .state) (eventCount file))
+
+    stops : (n ≡ 0 → ⊥) → Laid l (listed file) r m
+    stops h =
+        let e : listed file ≡ line = rw (← number, ne-eqb _ _ h) (append-nil _) in
+        rw e (first .0, first .1)
+
+    goes : {end : ℕ} {whole : List ℕ} → n ≡ 0 → Laid (lentFrom m r) events end whole → Laid l (listed file) (r + end) (backAt m r whole)
+    goes h laid =
+        let e : listed file ≡ line ++ events = rw (← number, eq-eqb _ _ h, starts, begins, reads) refl in
+        let all = begins-more l line m r events first fits laid in
+        rw e (all .0, all .1)
 
 listed-le : (file : List ℕ) → length (listed file) ≤ 64 + 64 * eventCount file
 unfolding listed
@@ -75,24 +94,24 @@ listing-le file = go (wellFormed file) refl
 abbrev pub Listed : List ℕ → List ℕ → ℕ → List ℕ → Type 0
 Listed l file r m = (Written 131072 l (listing file) r m) × ((r ≤ length m) × (r ≡ length (take r m)))
 
-module _ {m : List ℕ} {r : ℕ} (l file : List ℕ) where
-  pub listed-whole : Written 131072 l (listing file) r m → Listed l file r m
-  listed-whole w = (w, counts (decLe 131072 (length l)))
-    where
-      within : r ≤ length m → (r ≤ length m) × (r ≡ length (take r m))
-      within h = (h, sym (length-take-le r m h))
+pub listed-whole : {m : List ℕ} {r : ℕ} (l file : List ℕ) → Written 131072 l (listing file) r m → Listed l file r m
+listed-whole {m} {r} l file w = (w, counts (decLe 131072 (length l)))
+  where
+    within : r ≤ length m → (r ≤ length m) × (r ≡ length (take r m))
+    within h = (h, sym (length-take-le r m h))
 
-      counts : Dec (131072 ≤ length l) → (r ≤ length m) × (r ≡ length (take r m))
-      counts (yes h) =
-          let f = begins-first l (listing file) (omega (arith, listing-le file)) (written-laid 131072 l (listing file) h w) in
-          within (omega (arith, f .1, f .2, listing-le file))
-      counts (no h) =
-          let e : r ≡ 0 = w .1 ∙ simp (lt-leb 131072 (length l) (omega arith)) in within (omega arith)
+    counts : Dec (131072 ≤ length l) → (r ≤ length m) × (r ≡ length (take r m))
+    counts (yes h) =
+        let f = begins-first l (listing file) (omega (arith, listing-le file)) (written-laid 131072 l (listing file) h w) in
+        within (omega (arith, f .1, f .2, listing-le file))
+    counts (no h) =
+        let e : r ≡ 0 = w .1 ∙ simp (lt-leb 131072 (length l) (omega arith)) in within (omega arith)
 
-  pub listed-malformed : wellFormed file ≡ false → Written 131072 l (text (Line.Table 1)) r m → Listed l file r m
+module _ {m : List ℕ} {r : ℕ} (l file : List ℕ) (room : 131072 ≤ length l) where
+  pub listed-malformed : wellFormed file ≡ false → Written 64 l (text (Line.Table 1)) r m → Listed l file r m
   unfolding listing
-  listed-malformed e w = listed-whole (rw e w)
+  listed-malformed e w = listed-whole l file (laid-written 131072 l (listing file) room (rw e (written-laid 64 l (text (Line.Table 1)) (omega arith) w)))
 
-  pub listed-well-formed : wellFormed file ≡ true → Written 131072 l (listed file) r m → Listed l file r m
+  pub listed-well-formed : wellFormed file ≡ true → Laid l (listed file) r m → Listed l file r m
   unfolding listing
-  listed-well-formed e w = listed-whole (rw e w)
+  listed-well-formed e w = listed-whole l file (laid-written 131072 l (listing file) room (rw e w))

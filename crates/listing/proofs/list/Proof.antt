@@ -25,14 +25,10 @@ same-length c = search needs
 returns-2 : tie.Need-returns-2
 returns-2 c =
     let a = c .before .before .before .before .before .before .before .before .before .args in
-    let l = a .out .now in
-    let room : 131072 ≤ length l = omega (arith, c .before .before .before .before .before .before .if1 .left) in
-    listed-malformed l (a .file .now) (failed (c .before .before .before .before .before .well-formed .ensures) (c .before .before .before .before .if2 .taken))
-    (laid-written 131072 l (text (Line.Table 1)) room (written-laid 64 l (text (Line.Table 1)) (omega arith) (c .before .before .write .ensures)))
+    listed-malformed (a .out .now) (a .file .now) (omega arith) (search failed) (c .before .before .write .ensures)
 
 write-listed-requires : tie.Need-write-listed-requires
-write-listed-requires c κs =
-    omega (arith, lines-within (c .before .before .before .before .before .before .args .file .now) (passed (c .before .before .well-formed .ensures) (c .before .if2 .left)), c .before .before .before .if1 .left)
+write-listed-requires c κs = omega (arith, lines-within _ (passed (c .before .before .well-formed .ensures) (c .before .if2 .left)))
 
 same-length-2 : tie.Need-same-length-2
 same-length-2 c = search needs
@@ -40,9 +36,7 @@ same-length-2 c = search needs
 returns-3 : tie.Need-returns-3
 returns-3 c =
     let a = c .before .before .before .before .before .before .before .before .before .args in
-    let room : 131072 ≤ length (a .out .now) = omega (arith, c .before .before .before .before .before .before .if1 .left) in
-    listed-well-formed (a .out .now) (a .file .now) (passed (c .before .before .before .before .before .well-formed .ensures) (c .before .before .before .before .if2 .left))
-    (laid-written 131072 (a .out .now) (listed (a .file .now)) room (c .before .before .write-listed .ensures))
+    listed-well-formed (a .out .now) (a .file .now) (omega arith) (search passed) (c .before .before .write-listed .ensures)
 
 pub list-spec : {M : Type 1} → statement M
 list-spec =
