@@ -1,5 +1,6 @@
 // What a tick and its report do to the runner's job.
 ghost use mathlib.Core.Path.{_≡_};
+ghost use mathlib.Core.Bool.{cond, _||_};
 ghost use Prim.Native.Nat.{_+_, min};
 ghost use Rattle.units.specs.Amounts.{steps};
 ghost use Rattle.report.specs.Report.{heldOn, worked, ended, holding, atLimit, settled};
@@ -91,43 +92,48 @@ fn at_limit(task: Task, held: Held) -> bool
     }
 }
 
+// The budget is used up, or the section's limit is reached.
+fn stopped(task: Task, spent: bool, held: Held) -> bool
+    ensures { λ r. ⌜ r ≡ spent || atLimit task held ⌝ }
+{
+    spent || at_limit(task, held)
+}
+
+// The job, cut; or what it goes on as.
+fn cut_if(cut: bool, job: Job, after: Job) -> Outcome
+    ensures { λ r. ⌜ r ≡ cond cut (record { job = ended job; ending = 2 }) (record { job = after; ending = 0 }) ⌝ }
+{
+    if cut {
+        return Outcome {
+            job: ended(job),
+            ending: Answer::CUT,
+        };
+    }
+    Outcome {
+        job: after,
+        ending: 0,
+    }
+}
+
 // Done; else the budget; else take or give; else the section's limit.
 pub(crate) fn settled(task: Task, said: Report, job: Job) -> Outcome
     ensures { λ r. ⌜ r ≡ settled task said job ⌝ }
 {
-    let gone = ended(job);
-    let ending = Answer::CUT;
-    let cut = Outcome { job: gone, ending };
     let spent = job.used.0 == task.budget.0;
     match said {
         Report::Done => Outcome {
-            job: gone,
+            job: ended(job),
             ending: Answer::DONE,
         },
         Report::CarryOn => {
             let held = job.held;
-            if spent {
-                return cut;
-            }
-            if at_limit(task, held) {
-                return cut;
-            }
-            Outcome { job, ending: 0 }
+            cut_if(stopped(task, spent, held), job, job)
         }
         Report::Take(resource) => {
-            if spent {
-                return cut;
-            }
             let steps = Steps(0);
-            let job = holding(Held::In(Section { resource, steps }), job);
-            Outcome { job, ending: 0 }
+            let held = Held::In(Section { resource, steps });
+            cut_if(spent, job, holding(held, job))
         }
-        Report::Give => {
-            if spent {
-                return cut;
-            }
-            let job = holding(Held::Nothing, job);
-            Outcome { job, ending: 0 }
-        }
+        Report::Give => cut_if(spent, job, holding(Held::Nothing, job)),
     }
 }

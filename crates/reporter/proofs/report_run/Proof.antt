@@ -1,8 +1,33 @@
+use Prim.Native.Nat.{ℕ}
+use mathlib.Core.Path.{_≡_, _∙_}
+use lib.ListN.{set}
 use borrow.Author.Tests.{eq-eqb, ne-eqb}
-use Rattle.report.specs.Report.{reportRun}
+use Rattle.table.specs.declared.Table.{Table}
+use Rattle.table.specs.Table.{taskAt}
+use Rattle.state.specs.declared.State.{State}
+use Rattle.state.specs.declared.Job.{Job}
+use Rattle.state.specs.declared.Answer.{Answer}
+use Rattle.state.specs.declared.Report.{Report}
+use Rattle.state.specs.State.{jobAt}
+use Rattle.state.specs.Order.{heldResources}
+use Rattle.state.specs.Answers.{bare}
+use Rattle.choice.specs.declared.Turn.{Turn}
+use Rattle.report.specs.declared.Outcome.{Outcome}
+use Rattle.report.specs.Report.{objection, worked, settled, finished, reportRun}
 use borrow.Author.Needs.{needs}
 use Rattle.reporter.proofs.report_run.Statement.{statement}
 use Rattle.reporter.proofs.report_run.Tie as tie
+
+-- with the number of the objection
+module _ (t : Table) (s : State) (u : Turn) (p : ℕ) (said : Report) (a : Answer) (number held : ℕ) (e : number ≡ objection (taskAt t p) (jobAt s p) held said) (f : held ≡ heldResources s) where
+  objects : a ≡ bare number s → (number ≡ 0 → ⊥) → a ≡ reportRun t s u p said
+  unfolding reportRun
+  objects g h = rw (← f, ← e, ne-eqb _ _ h) g
+
+  ends : (o : Outcome) → a ≡ finished s (set (s .jobs) p (o .job)) u (o .ending) → (j : Job) → o ≡ settled (taskAt t p) said j → j ≡ worked (taskAt t p) (u .speed) (jobAt s p)
+      → number ≡ 0 → a ≡ reportRun t s u p said
+  unfolding reportRun
+  ends o g j h i n = rw (← f, ← e, eq-eqb _ _ n, ← i, ← h) g
 
 mul-task : tie.Need-mul-task
 mul-task c = search needs
@@ -26,8 +51,7 @@ bare-requires : tie.Need-bare-requires
 bare-requires c κs = search needs
 
 returns : tie.Need-returns
-unfolding reportRun
-returns c = rw (← c .before .before .before .held .ensures, ← c .before .before .objection .ensures, ne-eqb _ _ (c .before .if1 .taken), c .bare .ensures)
+returns c = search objects
 
 worked-requires : tie.Need-worked-requires
 worked-requires c κs = search needs
@@ -45,8 +69,7 @@ finished-requires : tie.Need-finished-requires
 finished-requires c κs = search needs
 
 returns-2 : tie.Need-returns-2
-unfolding reportRun
-returns-2 c = rw (← c .before .before .before .before .before .before .before .held .ensures, ← c .before .before .before .before .before .before .objection .ensures, eq-eqb _ _ (c .before .before .before .before .before .if1 .left), c .finished .ensures, c .before .before .before .settled .ensures, c .before .before .before .before .worked .ensures)
+returns-2 c = search ends
 
 pub report-run-spec : {M : Type 1} → statement M
 report-run-spec =

@@ -1,25 +1,39 @@
-use mathlib.Core.Path.{_≡_, sym, ap, _∙_}
-use mathlib.Core.Bool.{cond}
+use Prim.Native.Nat.{ℕ}
+use mathlib.Core.Path.{_≡_, ap}
+use mathlib.Core.Bool.{Bool, true, false, cond}
 use borrow.Author.Tests.{eq-eqb, ne-eqb}
 use Rattle.units.specs.declared.Steps.{Steps}
+use Rattle.units.specs.Amounts.{steps}
+use Rattle.units.specs.Sets.{has}
+use Rattle.table.specs.declared.Task.{Task}
+use Rattle.table.specs.Table.{limit}
+use Rattle.state.specs.declared.Job.{Job}
+use Rattle.state.specs.declared.Report.{Report}
+use Rattle.state.specs.declared.Report.the-variants.{Take}
+use Rattle.state.specs.Order.{holdsAny}
 use Rattle.report.specs.Report.{objection}
 use borrow.Author.Needs.{needs}
 use Rattle.reporter.proofs.objection.objection.Statement.{statement}
 use Rattle.reporter.proofs.objection.objection.Tie as tie
 
--- past the first two tests of a take, the set decides
-past : (c : tie.After-has) → let a = c .before .before .before .before .before .before .before .before .before .args in
-    objection (a .task) (a .job) (a .held) (a .said) ≡ cond (c .has .result) 15 0
-past c =
-    let h = c .before .before .before .before .before in
-    rw (
-      h .before .before .said .given .1,
-      ← h .any2 .ensures,
-      c .before .before .before .before .if2 .left,
-      ← ap (λ (x : Steps). x .0) (c .before .before .before .limit .ensures),
-      ne-eqb _ _ (c .before .if3 .left),
-      ← c .has .ensures,
-    )
+-- a take, in the order of its tests
+module _ (task : Task) (j : Job) (held : ℕ) (said : Report) (r : ℕ) (e : said ≡ Take r) (own : Bool) (f : own ≡ holdsAny (j .held)) where
+  holds-one : own ≡ true → 14 ≡ objection task j held said
+  holds-one h = rw (e, ← f, h)
+
+  module _ (h : own ≡ false) (most : Steps) (g : most ≡ steps (limit task r)) where
+    never : most .0 ≡ 0 → 13 ≡ objection task j held said
+    never n = rw (e, ← f, h, ← ap (λ (x : Steps). x .0) g, eq-eqb _ _ n)
+
+    module _ (n : most .0 ≡ 0 → ⊥) (b : Bool) (i : b ≡ has held r) where
+      past : cond b 15 0 ≡ objection task j held said
+      past = rw (e, ← f, h, ← ap (λ (x : Steps). x .0) g, ne-eqb _ _ n, ← i)
+
+      taken : b ≡ true → 15 ≡ objection task j held said
+      taken t = rw t at past
+
+      free : b ≡ false → 0 ≡ objection task j held said
+      free t = rw t at past
 
 enum-told : tie.Need-enum-told
 enum-told c = search needs
@@ -43,13 +57,13 @@ any-requires-2 : tie.Need-any-requires-2
 any-requires-2 c κs = search needs
 
 returns-2 : tie.Need-returns-2
-returns-2 c = rw (c .before .before .before .said .given .1, ← c .before .any2 .ensures, c .if2 .taken)
+returns-2 c = search holds-one
 
 limit-requires : tie.Need-limit-requires
 limit-requires c κs = search needs
 
 returns-3 : tie.Need-returns-3
-returns-3 c = rw (c .before .before .before .before .before .before .said .given .1, ← c .before .before .before .before .any2 .ensures, c .before .before .before .if2 .left, ← ap (λ (x : Steps). x .0) (c .before .before .limit .ensures), eq-eqb _ _ (c .if3 .taken))
+returns-3 c = search never
 
 cast-has : tie.Need-cast-has
 cast-has c = search needs
@@ -58,7 +72,7 @@ has-requires : tie.Need-has-requires
 has-requires c κs = search needs
 
 returns-4 : tie.Need-returns-4
-returns-4 c = sym (past (c .before) ∙ rw (c .if4 .taken))
+returns-4 c = search taken
 
 returns-5 : tie.Need-returns-5
 returns-5 c = search needs
@@ -70,7 +84,7 @@ returns-7 : tie.Need-returns-7
 returns-7 c = search needs
 
 returns-8 : tie.Need-returns-8
-returns-8 c = sym (past (c .before) ∙ rw (c .if4 .left))
+returns-8 c = search free
 
 pub objection-spec : {M : Type 1} → statement M
 objection-spec =
