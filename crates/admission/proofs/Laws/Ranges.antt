@@ -1,11 +1,11 @@
 -- What the tests of range say, as plain facts, both ways. Assumes nothing.
-use Prim.Native.Nat.{ℕ, _≤_}
+use Prim.Native.Nat.{ℕ, _≤_, _<_}
 use mathlib.Core.Path.{_≡_, refl, sym, ap, _∙_}
 use mathlib.Core.Bool.{Bool, true, false, not, false≢true}
 use lib.Dec.{leb}
-use borrow.Author.Tests.{leb-true, le-leb, eq-eqb, ne-eqb}
+use borrow.Author.Tests.{eq-eqb, ne-eqb}
 use Rattle.units.specs.Folds.{all}
-use Rattle.units.proofs.Laws.Folds.{both}
+use Rattle.units.proofs.Laws.Tests.{passed, tests, parts}
 use Rattle.verdict.specs.declared.Verdict.{Verdict}
 use Rattle.verdict.specs.Verdict.{answer}
 use Rattle.table.specs.declared.Task.{Task}
@@ -24,11 +24,11 @@ pub record CountFits (t : Table) : Type 0 where
 
 pub count-tells : (t : Table) → countInRange t ≡ true → CountFits t
 unfolding countInRange
-count-tells t h = let p = both _ _ h in record { low = leb-true _ _ (p .0); high = leb-true _ _ (p .1) }
+count-tells t h = search parts
 
 pub count-holds : (t : Table) → CountFits t → countInRange t ≡ true
 unfolding countInRange
-count-holds t h = simp (le-leb _ _ (h .low), le-leb _ _ (h .high))
+count-holds t h = search tests
 
 pub record SettingFits (t : Table) : Type 0 where
   pub full-low : 1 ≤ t .full
@@ -38,15 +38,11 @@ pub record SettingFits (t : Table) : Type 0 where
 
 pub setting-tells : (t : Table) → settingInRange t ≡ true → SettingFits t
 unfolding settingInRange
-setting-tells t h =
-    let p = both _ _ h in
-    let q = both _ _ (p .0) in
-    let r = both _ _ (q .0) in
-    record { full-low = leb-true _ _ (r .0); full-high = leb-true _ _ (r .1); round-low = leb-true _ _ (q .1); round-high = leb-true _ _ (p .1) }
+setting-tells t h = search parts
 
 pub setting-holds : (t : Table) → SettingFits t → settingInRange t ≡ true
 unfolding settingInRange
-setting-holds t h = simp (le-leb _ _ (h .full-low), le-leb _ _ (h .full-high), le-leb _ _ (h .round-low), le-leb _ _ (h .round-high))
+setting-holds t h = search tests
 
 pub record NumbersFit (f : ℕ) (k : Task) : Type 0 where
   pub d-low : 1 ≤ k .deadline .0
@@ -60,41 +56,15 @@ pub record NumbersFit (f : ℕ) (k : Task) : Type 0 where
 
 pub range-tells : (f : ℕ) (k : Task) → inRange f k ≡ true → NumbersFit f k × (all (λ r. leb (limit k r) (k .budget .0)) 8 ≡ true)
 unfolding inRange
-range-tells f k h =
-    let limits = both _ _ h in
-    let s = both _ _ (limits .0) in
-    let i = both _ _ (s .0) in
-    let i-low = both _ _ (i .0) in
-    let c = both _ _ (i-low .0) in
-    let c-low = both _ _ (c .0) in
-    let t = both _ _ (c-low .0) in
-    let d = both _ _ (t .0) in (
-      record {
-        d-low = leb-true _ _ (d .0);
-        d-high = leb-true _ _ (d .1);
-        t-high = leb-true _ _ (t .1);
-        c-low = leb-true _ _ (c-low .1);
-        c-high = leb-true _ _ (c .1);
-        i-low = leb-true _ _ (i-low .1);
-        i-high = leb-true _ _ (i .1);
-        s-high = leb-true _ _ (s .1);
-      },
-      limits .1,
-    )
+range-tells f k h = search parts depth 10
 
 pub range-holds : (f : ℕ) (k : Task) → NumbersFit f k → inRange f k ≡ all (λ r. leb (limit k r) (k .budget .0)) 8
 unfolding inRange
-range-holds f k h =
-    simp (
-      le-leb _ _ (h .d-low),
-      le-leb _ _ (h .d-high),
-      le-leb _ _ (h .t-high),
-      le-leb _ _ (h .c-low),
-      le-leb _ _ (h .c-high),
-      le-leb _ _ (h .i-low),
-      le-leb _ _ (h .i-high),
-      le-leb _ _ (h .s-high),
-    )
+range-holds f k h = sym (search tests)
+
+-- past that test, the round can be divided by D
+pub divides-by : (full : ℕ) (task : Task) {r : Bool} → r ≡ inRange full task → not r ≡ false → 0 < task .deadline .0
+divides-by full task e h = range-tells full task (passed e h) .0 .d-low
 
 -- a position at fault, and one that is not
 module _ (t : Table) (k : ℕ) {v : Verdict} (e : v ≡ faultAt t k) where

@@ -24,6 +24,13 @@ module _ {r b : Bool} (e : r ≡ b) where
   pub not-told : {v : Bool} → not r ≡ v → not b ≡ v
   not-told h = sym (ap not e) ∙ h
 
+module _ {b : Bool} where
+  pub not-yes : b ≡ true → not b ≡ false
+  not-yes e = ap not e
+
+  pub not-no : b ≡ false → not b ≡ true
+  not-no e = ap not e
+
 -- the arm that a test chooses
 module _ {A : Type 0} (x y : A) {b : Bool} where
   pub cond-yes : b ≡ true → cond b x y ≡ x
@@ -83,6 +90,8 @@ pub ruleset tests = (
   told-false,
   told-not,
   not-told,
+  not-yes,
+  not-no,
   lt-ltb,
   le-ltb,
   le-leb,
