@@ -61,15 +61,19 @@ module _ (t : Table) where
       unfolding verdict
       says-rest = simp (count-holds t c, setting-holds t s)
 
-      module _ {v : Verdict} (e : v ≡ first (faulty t) (faultAt t) Is.Passed (t .count)) where
-        pub says-fault : (Zero v → ⊥) → v ≡ verdict t
-        says-fault h = fault-first t e (sums t) h ∙ sym says-rest
+      -- the first fault, its number, and what the sums are
+      module _ {v : Verdict} (e : v ≡ first (faulty t) (faultAt t) Is.Passed (t .count)) {n : ℕ} (m : n ≡ answer v .0) where
+        pub says-fault : (n ≡ 0 → ⊥) → v ≡ verdict t
+        says-fault h = fault-first t e (sums t) (λ z. h (m ∙ z)) ∙ sym says-rest
 
-        module _ (h : Zero v) {n : ℕ} (m : n ≡ independentSum t) where
-          pub says-independent : t .round < n → Is.Independent ≡ verdict t
-          unfolding sums
-          says-independent l = sym (says-rest ∙ fault-none t e (sums t) h ∙ rw (← m, lt-ltb _ _ l))
+        module _ (h : n ≡ 0) {g : ℕ} (i : g ≡ independentSum t) where
+          says-sums : verdict t ≡ sums t
+          says-sums = says-rest ∙ fault-none t e (sums t) (sym m ∙ h)
 
-          pub says-overload : n ≤ t .round → first (overloaded t) Is.Synchronization Is.Passed (t .count) ≡ verdict t
+          pub says-independent : t .round < g → Is.Independent ≡ verdict t
           unfolding sums
-          says-overload l = sym (says-rest ∙ fault-none t e (sums t) h ∙ rw (← m, le-ltb _ _ l))
+          says-independent l = sym (says-sums ∙ rw (← i, lt-ltb _ _ l))
+
+          pub says-overload : {r : Verdict} → g ≤ t .round → r ≡ first (overloaded t) Is.Synchronization Is.Passed (t .count) → r ≡ verdict t
+          unfolding sums
+          says-overload l f = f ∙ sym (says-sums ∙ rw (← i, le-ltb _ _ l))

@@ -30,7 +30,7 @@ number-requires : tie.Need-number-requires
 number-requires c κs = search needs
 
 returns-7 : tie.Need-returns-7
-returns-7 c = says-fault _ (omega arith) (omega arith) (c .before .before .first-fault .ensures) (λ z. c .if7 .taken (c .before .number .ensures ∙ z))
+returns-7 c = search says-fault
 
 cast-if8 : tie.Need-cast-if8
 cast-if8 c = search needs
@@ -39,21 +39,13 @@ independent-sum-requires : tie.Need-independent-sum-requires
 independent-sum-requires c κs = search needs
 
 returns-8 : tie.Need-returns-8
-returns-8 c =
-    let n = c .before .before .before .before in
-    says-independent _ (omega arith) (omega arith) (n .before .first-fault .ensures) (sym (n .number .ensures) ∙ c .before .before .before .if7 .left)
-    (c .before .independent-sum .ensures) (c .if8 .taken)
+returns-8 c = search says-independent
 
 first-overload-requires : tie.Need-first-overload-requires
 first-overload-requires c κs = search needs
 
 returns-9 : tie.Need-returns-9
-returns-9 c =
-    let s = c .before .before in
-    let n = s .before .before .before in
-    c .first-overload .ensures
-    ∙ says-overload _ (omega (arith, n .before .before)) (omega (arith, n .before .before)) (n .before .first-fault .ensures) (sym (n .number .ensures) ∙ s .before .before .if7 .left)
-    (s .independent-sum .ensures) (c .before .if8 .left)
+returns-9 c = search says-overload
 
 pub verdict-of-spec : {M : Type 1} → statement M
 verdict-of-spec =
