@@ -1,17 +1,19 @@
 -- What the tests of range say, as plain facts, both ways. Assumes nothing.
-use Prim.Native.Nat.{ℕ, _≤_, _<_}
+use Prim.Native.Nat.{ℕ, _+_, _≤_, _<_}
 use mathlib.Core.Path.{_≡_, refl, sym, ap, _∙_}
 use mathlib.Core.Bool.{Bool, true, false, not, false≢true}
 use lib.Dec.{leb}
 use borrow.Author.Tests.{eq-eqb, ne-eqb}
-use Rattle.units.specs.Folds.{all}
+use Rattle.units.specs.Folds.{all, first, lowest}
+use Rattle.units.proofs.Laws.Folds.{lowest-next, first-found}
 use Rattle.units.proofs.Laws.Tests.{passed, tests, parts}
 use Rattle.verdict.specs.declared.Verdict.{Verdict}
+use Rattle.verdict.specs.declared.Verdict.the-variants.{Passed}
 use Rattle.verdict.specs.Verdict.{answer}
 use Rattle.table.specs.declared.Task.{Task}
 use Rattle.table.specs.declared.Table.{Table}
-use Rattle.table.specs.Table.{limit}
-use Rattle.admission.specs.Admission.{countInRange, settingInRange, inRange, faultAt, faulty}
+use Rattle.table.specs.Table.{taskAt, limit}
+use Rattle.admission.specs.Admission.{countInRange, settingInRange, inRange, fault, previous, faultAt, faulty}
 
 -- a test that cannot hold is false
 pub no-test : (b : Bool) → (b ≡ true → ⊥) → false ≡ b
@@ -78,3 +80,17 @@ module _ (t : Table) (k : ℕ) {v : Verdict} (e : v ≡ faultAt t k) where
 
 pub sound : (t : Table) (k : ℕ) → answer (faultAt t k) .0 ≡ 0 → faulty t k ≡ true → ⊥
 sound t k e h = false≢true (sym (no-fault t k refl e) ∙ h)
+
+-- ---- the walk: v is what is found at k, and no position before it is at fault
+
+module _ (t : Table) (k : ℕ) {d : ℕ} {v : Verdict} (e : v ≡ fault (t .full) (t .round) d (taskAt t k) k) (before : d ≡ previous t k) where
+  fault-here : v ≡ faultAt t k
+  unfolding faultAt
+  fault-here = e ∙ ap (λ (d : ℕ). fault (t .full) (t .round) d (taskAt t k) k) before
+
+  module _ (none : lowest (faulty t) k ≡ k) {n : ℕ} (m : n ≡ answer v .0) where
+    pub walk-stops : (n ≡ 0 → ⊥) → k < t .count → v ≡ first (faulty t) (faultAt t) Passed (t .count)
+    walk-stops h l = fault-here ∙ sym (first-found _ _ _ _ k none l (at-fault t k fault-here (λ z. h (m ∙ z))))
+
+    pub walk-on : n ≡ 0 → lowest (faulty t) (k + 1) ≡ k + 1
+    walk-on h = lowest-next _ k none (no-fault t k fault-here (sym m ∙ h))

@@ -6,7 +6,7 @@ use mathlib.Core.Logic.{⊎-elim}
 use native.Mathlib.Nat.{eq-or-lt-of-le, le-refl}
 use native.Mathlib.Omega.{arith}
 use borrow.Author.Tests.{lt-ltb, le-ltb}
-use Rattle.units.specs.Folds.{first}
+use Rattle.units.specs.Folds.{lowest, first}
 use Rattle.units.proofs.Laws.Folds.{lowest-bound, lowest-at, lowest-is, none-below, first-at, first-none}
 use Rattle.verdict.specs.declared.Verdict.{Verdict}
 use Rattle.verdict.specs.declared.Verdict.the-variants as Is
@@ -30,6 +30,10 @@ first-tells p f z n bad h =
 
 pub first-holds : (p : ℕ → Bool) (f : ℕ → Verdict) (z : Verdict) (n : ℕ) → ((k : ℕ) → k < n → p k ≡ false) → first p f z n ≡ z
 first-holds p f z n h = first-none p f z n (lowest-is p n n (le-refl n) (λ l. absurd (omega arith)) h)
+
+-- a walk that has come to the end without one
+pub first-past : (p : ℕ → Bool) (f : ℕ → Verdict) (z : Verdict) (n : ℕ) {k : ℕ} → lowest p k ≡ k → k ≤ n → n ≤ k → z ≡ first p f z n
+first-past p f z n {k} e l m = let s : k ≡ n = omega arith in sym (first-none p f z n (rw s at e))
 
 -- ---- the cases
 
