@@ -5,3 +5,4 @@ pub mod Ready
 pub mod Rules
 pub mod Runner
 pub mod Speed
+pub mod Alike

@@ -4,3 +4,4 @@ pub mod Held
 pub mod Jobs
 pub mod Middle
 pub mod Places
+pub mod Alike

@@ -1,3 +1,4 @@
 pub mod Jobs
 pub mod Answers
 pub mod Sections
+pub mod Alike

@@ -23,15 +23,22 @@ module _ {A : Type 0} (p : ℕ → Bool) (f : ℕ → A → A) (z : A) where
   pub over-next : (n : ℕ) {b b′ : A} → b ≡ over p f z n → b′ ≡ cond (p n) (f n b) b → b′ ≡ over p f z (n + 1)
   over-next n e e′ = rw over-more (e′ ∙ rw e)
 
--- what is the same at each position below n gathers to the same
-pub over-same : {A : Type 0} (p q : ℕ → Bool) (f g : ℕ → A → A) (z : A) (n : ℕ) → ((k : ℕ) → k < n → p k ≡ q k) → ((k : ℕ) (x : A) → k < n → f k x ≡ g k x)
+-- what is the same at each position below n gathers to the same: f at those alone that have p
+pub over-had : {A : Type 0} (p q : ℕ → Bool) (f g : ℕ → A → A) (z : A) (n : ℕ) → ((k : ℕ) → k < n → p k ≡ q k) → ((k : ℕ) (x : A) → k < n → p k ≡ true → f k x ≡ g k x)
     → over p f z n ≡ over q g z n
 unfolding over
-over-same p q f g z zero h e = refl
-over-same p q f g z (suc n) h e =
+over-had p q f g z zero h e = refl
+over-had p q f g z (suc n) h e =
     let last = le-refl (suc n) in
-    let rest = over-same p q f g z n (λ k l. h k (omega arith)) (λ k x l. e k x (omega arith)) in
-    rw (h n last, rest, e n (over q g z n) last)
+    rw (← h n last, over-had p q f g z n (λ k l. h k (omega arith)) (λ k x l. e k x (omega arith))) (go (p n) (e n (over q g z n) last))
+  where
+    go : (b : Bool) → (b ≡ true → f n (over q g z n) ≡ g n (over q g z n)) → cond b (f n (over q g z n)) (over q g z n) ≡ cond b (g n (over q g z n)) (over q g z n)
+    go true h = h refl
+    go false h = refl
+
+pub over-same : {A : Type 0} (p q : ℕ → Bool) (f g : ℕ → A → A) (z : A) (n : ℕ) → ((k : ℕ) → k < n → p k ≡ q k) → ((k : ℕ) (x : A) → k < n → f k x ≡ g k x)
+    → over p f z n ≡ over q g z n
+over-same p q f g z n h e = over-had p q f g z n h (λ k x l b. e k x l)
 
 pub sum-same : (f g : ℕ → ℕ) (n : ℕ) → ((k : ℕ) → k < n → f k ≡ g k) → sum f n ≡ sum g n
 unfolding sum
@@ -83,6 +90,11 @@ module _ (P : ℕ → Type 0) (n : ℕ) (below : (k : ℕ) → k < n → P k) (l
 pub both : (a b : Bool) → (a && b) ≡ true → (a ≡ true) × (b ≡ true)
 both true b h = (refl, h)
 both false b h = absurd (false≢true h)
+
+-- the second parts are asked for only where the first ones hold
+pub both-same : (a b x y : Bool) → a ≡ b → (a ≡ true → x ≡ y) → (a && x) ≡ (b && y)
+both-same true b x y e h = rw (← e) (h refl)
+both-same false b x y e h = rw (← e)
 
 pub all-tells : (p : ℕ → Bool) (n : ℕ) → all p n ≡ true → (k : ℕ) → k < n → p k ≡ true
 unfolding all over
