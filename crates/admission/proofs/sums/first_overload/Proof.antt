@@ -1,20 +1,16 @@
-use Prim.Native.Nat.{ℕ, _+_, _*_, _-_, _≤_, _<_}
-use mathlib.Core.Bool.{true, false}
-use mathlib.Core.Path.{_≡_, refl, sym, ap, ap₂, _∙_}
+use Prim.Native.Nat.{_*_, _-_, _≤_}
+use mathlib.Core.Path.{_≡_, refl}
 use native.Mathlib.Omega.{arith}
-use borrow.Author.Tests.{lt-ltb, le-ltb}
 use Rattle.units.specs.Folds.{over, lowest}
 use Rattle.units.specs.Folds as Folds
-use Rattle.units.proofs.Laws.Folds.{sum-next, lowest-next, first-found, first-none}
-use Rattle.table.specs.declared.Table.{Table}
-use Rattle.table.specs.Table.{D, C, S}
-use Rattle.admission.specs.Admission.{ticksInRound, synchronizationSum, overloaded}
+use Rattle.admission.specs.Admission.{overloaded}
+use Rattle.admission.proofs.Laws.Sums.{Summed, summed-none, summed-above, summed-next, summed-end}
 use borrow.Author.Needs.{needs}
 use Rattle.admission.proofs.sums.first_overload.Statement.{statement}
 use Rattle.admission.proofs.sums.first_overload.Tie as tie
 
 abbrev Inv-loop : tie.InvT-loop
-Inv-loop t n blocks sum₀ i₀ sum i = (i ≤ n) × (sum ≡ Folds.sum (λ k. ticksInRound (C t k) (S t k) (t .round) (D t k)) i) × (sum ≤ i * (65535 * 4294967295)) × (lowest (overloaded t) i ≡ i)
+Inv-loop t n blocks sum₀ i₀ sum i = Summed t blocks sum i
 
 abbrev μ-loop : tie.MeasureT-loop
 μ-loop t n blocks sum₀ i₀ sum i = n - i
@@ -23,8 +19,7 @@ blocks-requires : tie.Need-blocks-requires Inv-loop μ-loop
 blocks-requires c κs = search needs
 
 loop-holds : tie.Need-loop-holds Inv-loop μ-loop
-unfolding Folds.sum lowest over
-loop-holds c = (omega arith, refl, omega arith, refl)
+loop-holds c = summed-none _ _ (c .blocks2 .ensures)
 
 mul-task : tie.Need-mul-task Inv-loop μ-loop
 mul-task c = search needs
@@ -53,40 +48,8 @@ cast-if1 c = search needs
 add-if1 : tie.Need-add-if1 Inv-loop μ-loop
 add-if1 c = search needs
 
--- the running sum, and the sum that is compared
-module _ (c : tie.After-ticks-in-round2 Inv-loop μ-loop) where
-  abbrev t : Table
-  t = c .before .before .before .before .before .before .before .args .t1
-
-  abbrev i : ℕ
-  i = c .before .before .before .before .before .loop .i
-
-  abbrev sum : ℕ
-  sum = c .before .before .before .before .before .loop .sum + c .before .ticks-in-round .result
-
-  upto : sum ≡ Folds.sum (λ k. ticksInRound (C t k) (S t k) (t .round) (D t k)) (i + 1)
-  upto =
-      let l = c .before .before .before .before .before .loop in
-      sum-next _ i (l .inv .1) (ap (λ (x : ℕ). l .sum + x) (c .before .ticks-in-round .ensures .0))
-
-  whole : c .ticks-in-round2 .result + sum ≡ synchronizationSum t i
-  unfolding synchronizationSum
-  whole =
-      let longest = c .before .before .before .before .before .before .blocks2 .ensures i (omega arith) in
-      ap₂ (λ (x y : ℕ). x + y) (c .ticks-in-round2 .ensures .0 ∙ ap (λ (b : ℕ). ticksInRound b (S t i) (t .round) (D t i)) longest) upto
-
-  above : t .round < c .ticks-in-round2 .result + sum → overloaded t i ≡ true
-  unfolding overloaded
-  above h = lt-ltb (t .round) (synchronizationSum t i) (omega (arith, whole))
-
-  within : c .ticks-in-round2 .result + sum ≤ t .round → overloaded t i ≡ false
-  unfolding overloaded
-  within h = le-ltb (t .round) (synchronizationSum t i) (omega (arith, whole))
-
 returns : tie.Need-returns Inv-loop μ-loop
-returns c =
-    let l = c .before .before .before .before .before .before .loop in
-    sym (first-found _ _ _ _ (l .i) (l .inv .3) (c .before .before .before .before .before .loop-test .taken) (above (c .before) (c .if1 .taken)))
+returns c = search summed-above
 
 add-i : tie.Need-add-i Inv-loop μ-loop
 add-i c = search needs
@@ -95,13 +58,10 @@ loop-less : tie.Need-loop-less Inv-loop μ-loop
 loop-less c = search needs
 
 loop-again : tie.Need-loop-again Inv-loop μ-loop
-loop-again c =
-    let l = c .before .before .before .before .before .before .loop in
-    (omega arith, upto (c .before), omega arith, lowest-next _ (l .i) (l .inv .3) (within (c .before) (c .if1 .left)))
+loop-again c = search summed-next
 
 returns-2 : tie.Need-returns-2 Inv-loop μ-loop
-returns-2 c =
-    let e : c .before .loop .i ≡ c .before .before .before .args .t1 .count = omega arith in sym (first-none _ _ _ _ (rw e at (c .before .loop .inv .3)))
+returns-2 c = search summed-end
 
 pub first-overload-spec : {M : Type 1} → statement M
 first-overload-spec =
