@@ -4,12 +4,14 @@ use mathlib.Core.Path.{_≡_, refl, sym, ap, ap₂, _∙_}
 use mathlib.Core.List.{List}
 use native.Mathlib.Nat.{div-zero, div-le-self, mul-zero, mul-le-mul}
 use native.Mathlib.Omega.{arith}
+use mir.Syntax.{w64}
+use mir.Val.{Fits}
 use lib.Dec.{leb}
 use lib.ListN.{getD}
 use borrow.Author.Tests.{lt-ltb, le-ltb}
 use Rattle.units.specs.declared.Ticks.{Ticks}
 use Rattle.units.specs.declared.Steps.{Steps}
-use Rattle.units.specs.Amounts.{ticks, steps}
+use Rattle.units.specs.Amounts.{ticks, steps, Up, given}
 use Rattle.units.specs.Folds.{over, sum, largest, lowest, first}
 use Rattle.units.proofs.Laws.Folds.{largest-same, sum-next, lowest-next, first-found, first-none}
 use Rattle.verdict.specs.declared.Verdict.the-variants.{Passed, Synchronization}
@@ -18,13 +20,30 @@ use Rattle.table.specs.Table.{D, C, S, ceiling, ceilings}
 use Rattle.table.proofs.Laws.Ceilings.{ceilings-at}
 use Rattle.admission.specs.Admission.{ticksInRound, B, synchronizationSum, overloaded}
 
-pub no-ticks : (work speed g : ℕ) → ticksInRound work speed g 0 ≡ 0
+-- ---- a term: u is the ticks of some work, where a tick gives v
+
+pub no-ticks : (work speed g : ℕ) {d : ℕ} → d ≡ 0 → 0 ≡ ticksInRound work speed g d
 unfolding ticksInRound
-no-ticks work speed g = rw (div-zero g, mul-zero)
+no-ticks work speed g e = rw (e, div-zero g, mul-zero)
+
+pub found-ticks : (work speed g d : ℕ) {u : Ticks} {v : Steps} → u ≡ ticks (Up work (v .0)) → v ≡ steps (given speed) → u .0 * (g / d) ≡ ticksInRound work speed g d
+unfolding ticksInRound
+found-ticks work speed g d e f = rw (e, f)
 
 -- no term is too large for a sum of 64 bits
-pub term-fits : (x g d : ℕ) → x ≤ 65535 → g < 2 ^ 32 → x * (g / d) ≤ 65535 * 4294967295
-term-fits x g d h l = let q : g / d ≤ 4294967295 = omega (arith, div-le-self g d) in mul-le-mul h q
+module _ (g d : ℕ) (l : g < 2 ^ 32) where
+  small : g / d ≤ 4294967295
+  small = omega (arith, div-le-self g d)
+
+  pub quotient-fits : Fits w64 (g / d)
+  quotient-fits = omega (arith, small)
+
+  module _ (u : ℕ) (h : u ≤ 65535) where
+    pub term-small : u * (g / d) ≤ 65535 * 4294967295
+    term-small = mul-le-mul h small
+
+    pub term-fits : Fits w64 (u * (g / d))
+    term-fits = omega (arith, term-small)
 
 -- the ceilings, read off their list
 pub reach-same : (t : Table) {l : List Ticks} → l ≡ ceilings t → (d : ℕ) (f : ℕ → ℕ) →
