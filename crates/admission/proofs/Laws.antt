@@ -1,4 +1,5 @@
 pub mod Ranges
+pub mod Blocking
 pub mod Sums
 pub mod Verdict
 pub mod Admitted

@@ -6,18 +6,16 @@ use native.Mathlib.Nat.{div-zero, div-le-self, mul-zero, mul-le-mul}
 use native.Mathlib.Omega.{arith}
 use mir.Syntax.{w64}
 use mir.Val.{Fits}
-use lib.Dec.{leb}
 use lib.ListN.{getD}
 use borrow.Author.Tests.{lt-ltb, le-ltb}
 use Rattle.units.specs.declared.Ticks.{Ticks}
 use Rattle.units.specs.declared.Steps.{Steps}
 use Rattle.units.specs.Amounts.{ticks, steps, Up, given}
-use Rattle.units.specs.Folds.{over, sum, largest, lowest, first}
-use Rattle.units.proofs.Laws.Folds.{largest-same, sum-next, lowest-next, first-found, first-none}
+use Rattle.units.specs.Folds.{over, sum, lowest, first}
+use Rattle.units.proofs.Laws.Folds.{sum-next, lowest-next, first-found, first-none}
 use Rattle.verdict.specs.declared.Verdict.the-variants.{Passed, Synchronization}
 use Rattle.table.specs.declared.Table.{Table}
-use Rattle.table.specs.Table.{D, C, S, ceiling, ceilings}
-use Rattle.table.proofs.Laws.Ceilings.{ceilings-at}
+use Rattle.table.specs.Table.{D, C, S}
 use Rattle.admission.specs.Admission.{ticksInRound, B, synchronizationSum, overloaded}
 
 -- ---- a term: u is the ticks of some work, where a tick gives v
@@ -44,12 +42,6 @@ module _ (g d : ℕ) (l : g < 2 ^ 32) where
 
     pub term-fits : Fits w64 (u * (g / d))
     term-fits = omega (arith, term-small)
-
--- the ceilings, read off their list
-pub reach-same : (t : Table) {l : List Ticks} → l ≡ ceilings t → (d : ℕ) (f : ℕ → ℕ) →
-    largest (λ r. leb (getD l r (ticks 0) .0) d) f 8 ≡ largest (λ r. leb (ceiling t r) d) f 8
-reach-same t e d f =
-    largest-same _ _ _ _ 8 (λ r m. ap (λ (l : List Ticks). leb (getD l r (ticks 0) .0) d) e ∙ ap (λ (c : ℕ). leb c d) (ceilings-at t r m)) (λ r m. refl)
 
 -- ---- the walk for number 8: no position below i is overloaded, x is the sum up to there, and l has each position's B
 
