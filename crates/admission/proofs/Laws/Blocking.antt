@@ -30,6 +30,11 @@ With ceilings task blocks deadlines i b =
     (max (getD blocks i (steps 0) .0) (largest (λ r. leb (getD ceilings r (ticks 0) .0) (getD deadlines i (ticks 0) .0)) (limit task) 8))
     (getD blocks i (steps 0) .0)
 
+pub found-with : (ceilings : List Ticks) (task : Task) (blocks : List Steps) (deadlines : List Ticks) (i : ℕ) {b other : Steps} →
+    b .0 ≡ cond (ltb (getD deadlines i (ticks 0) .0) (task .deadline .0)) (max (getD blocks i (steps 0) .0) (other .0)) (getD blocks i (steps 0) .0)
+    → other .0 ≡ largest (λ r. leb (getD ceilings r (ticks 0) .0) (getD deadlines i (ticks 0) .0)) (limit task) 8 → With ceilings task blocks deadlines i b
+found-with ceilings task blocks deadlines i e f = e ∙ rw f
+
 -- B, of the tasks below j alone
 abbrev upTo : Table → ℕ → ℕ → ℕ
 upTo t i j = largest (λ j. ltb (D t i) (D t j)) (λ j. largest (λ r. leb (ceiling t r) (D t i)) (limit (taskAt t j)) 8) j

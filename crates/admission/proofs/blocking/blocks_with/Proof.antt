@@ -1,30 +1,14 @@
-use Prim.Native.Nat.{ℕ, _-_, max}
-use mathlib.Core.Path.{_≡_, _∙_}
-use mathlib.Core.Bool.{cond}
-use mathlib.Core.List.{List}
+use Prim.Native.Nat.{_-_}
 use native.Mathlib.Omega.{arith}
-use lib.Dec.{ltb, leb}
-use lib.ListN.{getD}
-use Rattle.units.specs.declared.Ticks.{Ticks}
-use Rattle.units.specs.declared.Steps.{Steps}
 use Rattle.units.proofs.Laws.Folds.{Filled, fill-none, fill-next}
-use Rattle.units.specs.Amounts.{ticks, steps}
-use Rattle.units.specs.Folds.{largest}
-use Rattle.table.specs.Table.{limit}
-use Rattle.table.specs.declared.Task.{Task}
+use Rattle.units.specs.Amounts.{steps}
+use Rattle.admission.proofs.Laws.Blocking.{With, found-with}
 use borrow.Author.Needs.{needs}
 use Rattle.admission.proofs.blocking.blocks_with.Statement.{statement}
 use Rattle.admission.proofs.blocking.blocks_with.Tie as tie
 
--- what is to stand at position i
-abbrev Right : List Ticks → Task → List Steps → List Ticks → ℕ → Steps → Type 0
-Right ceilings task blocks deadlines i b =
-    b .0 ≡ cond (ltb (getD deadlines i (ticks 0) .0) (task .deadline .0))
-    (max (getD blocks i (steps 0) .0) (largest (λ r. leb (getD ceilings r (ticks 0) .0) (getD deadlines i (ticks 0) .0)) (limit task) 8))
-    (getD blocks i (steps 0) .0)
-
 abbrev Inv-loop : tie.InvT-loop
-Inv-loop ceilings task blocks deadlines next₀ i₀ next i = Filled (steps 0) (Right ceilings task blocks deadlines) 16 next i
+Inv-loop ceilings task blocks deadlines next₀ i₀ next i = Filled (steps 0) (With ceilings task blocks deadlines) 16 next i
 
 abbrev μ-loop : tie.MeasureT-loop
 μ-loop ceilings task blocks deadlines next₀ i₀ next i = 16 - i
@@ -63,10 +47,7 @@ loop-less : tie.Need-loop-less Inv-loop μ-loop
 loop-less c = search needs
 
 loop-again : tie.Need-loop-again Inv-loop μ-loop
-loop-again c =
-    let l = c .before .before .before .before .before .before .before in
-    fill-next _ _ (l .loop .inv) (c .before .before .before .before .before .before .loop-test .taken)
-    (c .longer .ensures ∙ rw (c .before .before .before .before .longest-of .ensures))
+loop-again c = search (fill-next, found-with)
 
 returns : tie.Need-returns Inv-loop μ-loop
 returns c = λ i m. c .before .loop .inv .right i (omega arith)
