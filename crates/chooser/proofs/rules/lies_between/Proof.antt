@@ -1,13 +1,24 @@
+use Prim.Native.Nat.{ℕ, _<_, _≤_}
+use mathlib.Core.Path.{_≡_}
+use mathlib.Core.Bool.{Bool, true, _&&_}
+use lib.Dec.{leb}
 use borrow.Author.Tests.{le-leb, lt-leb}
 use borrow.Author.Needs.{needs}
 use Rattle.chooser.proofs.rules.lies_between.Statement.{statement}
 use Rattle.chooser.proofs.rules.lies_between.Tie as tie
 
+module _ (there : Bool) (low d high : ℕ) (h : there ≡ true) where
+  past : low ≤ d → leb d high ≡ there && (leb low d && leb d high)
+  past l = rw (h, le-leb _ _ l)
+
+  short : d < low → leb low d ≡ there && (leb low d && leb d high)
+  short l = rw (h, lt-leb _ _ l)
+
 returns : tie.Need-returns
-returns c = rw (c .before .before .before .before .before .if1 .taken, le-leb _ _ (c .before .before .if2 .taken))
+returns c = search past
 
 returns-2 : tie.Need-returns-2
-returns-2 c = rw (c .before .before .before .if1 .taken, lt-leb _ _ (c .if2 .left))
+returns-2 c = search short
 
 returns-3 : tie.Need-returns-3
 returns-3 c = search needs

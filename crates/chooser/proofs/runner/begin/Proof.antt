@@ -1,11 +1,20 @@
-use lib.Seq.{set-out}
+use Prim.Native.Nat.{ℕ, _≤_}
 use mathlib.Core.Path.{_≡_, sym}
 use native.Mathlib.Nat.{le-trans, le-of-eq}
 use lib.ListN.{length}
+use lib.Seq.{set-out}
 use Rattle.units.proofs.Laws.Folds.{long}
+use Rattle.state.specs.declared.State.{State}
+use Rattle.state.specs.declared.Runner.{Runner}
+use Rattle.state.specs.declared.Runner.the-variants as Runs
+use Rattle.choice.specs.Choice.{begin}
 use borrow.Author.Needs.{needs}
 use Rattle.chooser.proofs.runner.begin.Statement.{statement}
 use Rattle.chooser.proofs.runner.begin.Tie as tie
+
+-- past the end nobody is started
+unset : (s : State) (r : Runner) (k : ℕ) → r ≡ Runs.Job k → 16 ≤ k → length (s .jobs) ≡ 16 → s .jobs ≡ begin s r
+unset s r k e l h = rw e (sym (set-out (s .jobs) _ _ (le-trans (le-of-eq h) l)))
 
 enum-told : tie.Need-enum-told
 enum-told c = search needs
@@ -35,10 +44,7 @@ returns-2 : tie.Need-returns-2
 returns-2 c = rw (c .before .before .before .runner .given .1)
 
 returns-3 : tie.Need-returns-3
-returns-3 c =
-    let l = c .before .before .before .before .before .args .state .jobs in
-    let h : length l ≡ 16 = search (needs, long) in
-    rw (c .before .before .runner .given .1) (sym (set-out l _ _ (le-trans (le-of-eq h) (c .if1 .left))))
+returns-3 c = search (needs, long, unset)
 
 pub begin-spec : {M : Type 1} → statement M
 begin-spec =

@@ -1,19 +1,28 @@
-use Prim.Native.Nat.{_≤_, _-_}
+use Prim.Native.Nat.{ℕ, _-_, _≤_, _<_}
 use mathlib.Core.Path.{_≡_, refl, sym, ap, _∙_}
-use mathlib.Core.Bool.{false, _&&_}
+use mathlib.Core.Bool.{Bool, true, false, _&&_}
 use native.Mathlib.Omega.{arith}
 use lib.Dec.{eqb}
 use Rattle.units.specs.Clock.{distance}
 use Rattle.units.specs.Folds.{over, some}
-use Rattle.units.proofs.Laws.Folds.{some-next, some-holds}
+use Rattle.units.proofs.Laws.Folds.{some-holds}
+use Rattle.state.specs.declared.State.{State}
 use Rattle.state.specs.State.{jobAt}
+use Rattle.chooser.proofs.Laws.Loops.{none-yet}
 use Rattle.report.specs.Report.{late}
 use borrow.Author.Needs.{needs}
 use Rattle.reporter.proofs.closing.late.Statement.{statement}
 use Rattle.reporter.proofs.closing.late.Tie as tie
 
+abbrev stands : State → ℕ → Bool
+stands s k = jobAt s k .pending && eqb (distance (s .tick .0) (jobAt s k .deadline .0)) 0
+
+one : (s : State) (k : ℕ) → k < 16 → (b : Bool) → b ≡ true → b ≡ stands s k → true ≡ late s
+unfolding late
+one s k l b h e = sym (some-holds (stands s) 16 k l (sym e ∙ h))
+
 abbrev Inv-loop : tie.InvT-loop
-Inv-loop state k₀ k = (k ≤ 16) × (some (λ k. jobAt state k .pending && eqb (distance (state .tick .0) (jobAt state k .deadline .0)) 0) k ≡ false)
+Inv-loop state k₀ k = (k ≤ 16) × (some (stands state) k ≡ false)
 
 abbrev μ-loop : tie.MeasureT-loop
 μ-loop state k₀ k = 16 - k
@@ -32,8 +41,7 @@ stands-requires : tie.Need-stands-requires Inv-loop μ-loop
 stands-requires c κs = search needs
 
 returns : tie.Need-returns Inv-loop μ-loop
-unfolding late
-returns c = sym (some-holds _ 16 _ (c .before .before .before .before .loop-test .taken) (sym (c .before .stands .ensures) ∙ c .if1 .taken))
+returns c = search one
 
 add-k : tie.Need-add-k Inv-loop μ-loop
 add-k c = search needs
@@ -42,7 +50,7 @@ loop-less : tie.Need-loop-less Inv-loop μ-loop
 loop-less c = search needs
 
 loop-again : tie.Need-loop-again Inv-loop μ-loop
-loop-again c = (omega arith, sym (some-next _ _ (sym (c .before .before .before .before .before .loop .inv .1)) (rw (← c .before .stands .ensures, c .if1 .left))))
+loop-again c = (omega arith, search none-yet)
 
 returns-2 : tie.Need-returns-2 Inv-loop μ-loop
 unfolding late

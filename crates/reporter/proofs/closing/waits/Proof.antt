@@ -1,15 +1,20 @@
-use Prim.Native.Nat.{_≤_, _-_}
+use Prim.Native.Nat.{ℕ, _+_, _-_, _≤_}
 use mathlib.Core.Path.{_≡_, refl, _∙_}
 use native.Mathlib.Nat.{le-trans, le-of-eq}
 use native.Mathlib.Omega.{arith}
-use lib.ListN.{length}
+use mathlib.Core.List.{List}
+use lib.ListN.{length, getD, set}
 use Rattle.units.proofs.Laws.Folds.{long}
+use Rattle.state.specs.declared.Job.{Job}
 use Rattle.state.specs.State.{noJob}
 use Rattle.report.specs.Report.{waited}
 use Rattle.reporter.proofs.Laws.Lists.{part, part-more, part-all}
 use borrow.Author.Needs.{needs}
 use Rattle.reporter.proofs.closing.waits.Statement.{statement}
 use Rattle.reporter.proofs.closing.waits.Tie as tie
+
+turn : (l : List Job) (k : ℕ) {next : List Job} {j : Job} → j ≡ waited (getD next k noJob) → next ≡ part waited k l → set next k j ≡ part waited (k + 1) l
+turn l k h before = rw (h, before) (part-more waited k l noJob)
 
 abbrev Inv-loop : tie.InvT-loop
 Inv-loop next₀ k₀ next k = (k ≤ 16) × (next ≡ part waited k next₀)
@@ -42,9 +47,7 @@ loop-less : tie.Need-loop-less Inv-loop μ-loop
 loop-less c = search needs
 
 loop-again : tie.Need-loop-again Inv-loop μ-loop
-loop-again c =
-    let l = c .before .before .before .loop in
-    (omega arith, rw (c .waited .ensures, l .inv .1) (part-more waited (l .k) (c .before .before .before .before .args .jobs) noJob))
+loop-again c = (omega arith, search turn)
 
 returns : tie.Need-returns Inv-loop μ-loop
 returns c =

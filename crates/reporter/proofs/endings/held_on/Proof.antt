@@ -1,8 +1,20 @@
-use mathlib.Core.Path.{ap}
+use Prim.Native.Nat.{ℕ, _+_, min}
+use mathlib.Core.Path.{_≡_, ap}
 use Rattle.units.specs.declared.Steps.{Steps}
+use Rattle.units.specs.Amounts.{steps, given}
+use Rattle.table.specs.declared.Task.{Task}
+use Rattle.table.specs.Table.{limit}
+use Rattle.state.specs.declared.Section.{Section}
+use Rattle.state.specs.declared.Held.{Held}
+use Rattle.state.specs.declared.Held.the-variants.{In}
+use Rattle.report.specs.Report.{heldOn}
 use borrow.Author.Needs.{needs}
 use Rattle.reporter.proofs.endings.held_on.Statement.{statement}
 use Rattle.reporter.proofs.endings.held_on.Tie as tie
+
+rises : (task : Task) (v : ℕ) (held : Held) (x : Section) (n tick most : Steps) → n ≡ steps (min (x .steps .0 + tick .0) (most .0)) → held ≡ In x
+    → tick ≡ steps (given v) → most ≡ steps (limit task (x .resource)) → In (record { resource = x .resource; steps = n }) ≡ heldOn task v held
+rises task v held x n tick most h e f g = rw (e, h, f, ← ap (λ (x : Steps). x .0) g)
 
 enum-told : tie.Need-enum-told
 enum-told c = search needs
@@ -23,7 +35,7 @@ returns : tie.Need-returns
 returns c = search needs
 
 returns-2 : tie.Need-returns-2
-returns-2 c = rw (c .before .before .before .before .held .given .1, c .risen .ensures, c .before .given .ensures, ← ap (λ (x : Steps). x .0) (c .before .before .limit .ensures))
+returns-2 c = search rises
 
 pub held-on-spec : {M : Type 1} → statement M
 held-on-spec =

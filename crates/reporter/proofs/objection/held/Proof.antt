@@ -1,13 +1,18 @@
-use Prim.Native.Nat.{_≤_, _-_}
+use Prim.Native.Nat.{ℕ, _+_, _-_, _≤_}
 use mathlib.Core.Path.{_≡_, refl, _∙_, ap}
 use native.Mathlib.Omega.{arith}
 use Rattle.units.specs.Folds.{over, some}
 use Rattle.units.specs.Sets.{set}
-use Rattle.state.specs.Order.{heldResources}
+use Rattle.state.specs.declared.State.{State}
+use Rattle.state.specs.State.{jobAt}
+use Rattle.state.specs.Order.{withHeld, heldResources}
 use Rattle.state.proofs.Laws.Holders.{heldBelow, held-next}
 use borrow.Author.Needs.{needs}
 use Rattle.reporter.proofs.objection.held.Statement.{statement}
 use Rattle.reporter.proofs.objection.held.Tie as tie
+
+turn : (s : State) (k : ℕ) {found next : ℕ} → next ≡ withHeld found (jobAt s k .held) → found ≡ heldBelow s k → next ≡ heldBelow s (k + 1)
+turn s k h before = h ∙ rw before (held-next s k _ refl)
 
 abbrev Inv-loop : tie.InvT-loop
 Inv-loop self found₀ k₀ found k = (k ≤ 16) × (found ≡ heldBelow self k)
@@ -35,9 +40,7 @@ loop-less : tie.Need-loop-less Inv-loop μ-loop
 loop-less c = search needs
 
 loop-again : tie.Need-loop-again Inv-loop μ-loop
-loop-again c =
-    let l = c .before .before .before .loop in
-    (omega arith, c .join .ensures ∙ rw (l .inv .1) (held-next (c .before .before .before .before .args .t1) (l .k) _ refl))
+loop-again c = (omega arith, search turn)
 
 returns : tie.Need-returns Inv-loop μ-loop
 unfolding heldResources
