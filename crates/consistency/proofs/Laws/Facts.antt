@@ -27,7 +27,6 @@ use Rattle.state.specs.State.{jobAt, noJob, empty, passes}
 use Rattle.state.specs.Order.{holdsAny}
 use Rattle.state.proofs.Laws.Fresh.{empty-job}
 use Rattle.choice.specs.Choice.{turn}
-use Rattle.choice.proofs.Laws.Runner.{runner-below}
 use Rattle.consistency.specs.Consistency.{positionFits, markFits, sameRunner, sameMark, hasBegun, unchanged, halfFits, consistent}
 use Rattle.consistency.proofs.Laws.Jobs.{JobFits}
 use Rattle.consistency.proofs.Laws.Held.{Once}
@@ -157,10 +156,6 @@ module _ (t : Table) (s : State) where
         mark-holds (t .count) (s .tick .0) (s .mark) (h .mark),
         half-holds (s .half) (h .first) (h .second),
       )
-
-  -- the job on the processor is one of 16
-  pub runs-below : Consistent t s → s .half ≡ Second → (p : ℕ) → s .runner ≡ Runs.Job p → p < 16
-  runs-below h e p r = runner-below t s p (h .second e .runner ∙ r)
 
 -- ---- a fresh start
 

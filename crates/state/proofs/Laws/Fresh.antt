@@ -11,7 +11,9 @@ use Rattle.units.specs.Folds.{listed}
 use Rattle.units.proofs.Laws.Folds.{listed-at, listed-length}
 use Rattle.verdict.specs.Verdict.{answer}
 use Rattle.table.specs.declared.Table.{Table}
+use Rattle.table.proofs.Laws.Alike.{Alike}
 use Rattle.admission.specs.Admission.{verdict}
+use Rattle.admission.proofs.Laws.Alike.{verdict-same}
 use Rattle.state.specs.declared.Half.the-variants.{First}
 use Rattle.state.specs.declared.Mark.the-variants.{Absent}
 use Rattle.state.specs.declared.Runner.the-variants.{Nobody}
@@ -48,3 +50,8 @@ module _ (t : Table) (now : Tick) where
   pub fresh-refused : (answer (verdict t) .0 ≡ 0 → ⊥) → fresh t now ≡ record { verdict = verdict t; state = empty (tick 0) }
   unfolding fresh passes
   fresh-refused h = simp (ne-eqb _ _ h)
+
+-- "Entries past the task count are not read"
+pub fresh-same : {t u : Table} → Alike t u → (now : Tick) → fresh t now ≡ fresh u now
+unfolding fresh passes
+fresh-same a now = rw (verdict-same a)

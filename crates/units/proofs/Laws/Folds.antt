@@ -52,10 +52,6 @@ pub smallest-same : (p q : ℕ → Bool) (f g : ℕ → ℕ) (z n : ℕ) → ((k
 unfolding smallest
 smallest-same p q f g z n h e = over-same p q _ _ z n h (λ k x l. ap (λ (y : ℕ). min x y) (e k l))
 
-pub some-same : (p q : ℕ → Bool) (n : ℕ) → ((k : ℕ) → k < n → p k ≡ q k) → some p n ≡ some q n
-unfolding some
-some-same p q n h = over-same p q _ _ false n h (λ k x l. refl)
-
 pub lowest-same : (p q : ℕ → Bool) (n : ℕ) → ((k : ℕ) → k < n → p k ≡ q k) → lowest p n ≡ lowest q n
 unfolding lowest
 lowest-same p q n h = over-same p q _ _ n n h (λ k x l. refl)
