@@ -9,7 +9,7 @@ use lib.ListN.{getD}
 use Rattle.units.specs.declared.Ticks.{Ticks}
 use Rattle.units.specs.declared.Steps.{Steps}
 use Rattle.units.specs.Amounts.{ticks, steps}
-use Rattle.units.specs.Folds.{over, largest}
+use Rattle.units.specs.Folds.{largest}
 use Rattle.units.proofs.Laws.Folds.{largest-same, largest-next}
 use Rattle.table.specs.declared.Task.{Task}
 use Rattle.table.specs.declared.Table.{Table}

@@ -43,6 +43,10 @@ module _ (g d : ℕ) (l : g < 2 ^ 32) where
     pub term-fits : Fits w64 (u * (g / d))
     term-fits = omega (arith, term-small)
 
+-- one term more
+pub sum-on : (f : ℕ → ℕ) (n : ℕ) {s y : ℕ} → y ≡ f n → s ≡ sum f n → s + y ≡ sum f (n + 1)
+sum-on f n {s} own upto = sum-next f n upto (ap (λ (y : ℕ). s + y) own)
+
 -- ---- the walk for number 8: no position below i is overloaded, x is the sum up to there, and l has each position's B
 
 abbrev work : Table → ℕ → ℕ
@@ -66,7 +70,7 @@ module _ (t : Table) (l : List Steps) where
   -- y is what i adds to the sum, and z what it may have to wait for
   module _ {x y z i : ℕ} (w : Summed x i) (own : y ≡ work t i) (waits : z ≡ ticksInRound (getD l i (steps 0) .0) (S t i) (t .round) (D t i)) (inside : i < t .count) where
     next : x + y ≡ sum (work t) (i + 1)
-    next = sum-next _ i (w .upto) (ap (λ (y : ℕ). x + y) own)
+    next = sum-on _ i own (w .upto)
 
     whole : z + (x + y) ≡ synchronizationSum t i
     unfolding synchronizationSum

@@ -1,4 +1,3 @@
-use mathlib.Core.Path.{sym, _∙_}
 use native.Mathlib.Omega.{arith}
 use Rattle.admission.proofs.Laws.Verdict.{says-count, says-setting, says-fault, says-independent, says-overload}
 use borrow.Author.Needs.{needs}

@@ -43,8 +43,7 @@ loop-less : tie.Need-loop-less Inv-loop μ-loop
 loop-less c = search needs
 
 loop-again : tie.Need-loop-again Inv-loop μ-loop
-loop-again c =
-    let l = c .before .before .before .before .loop in (omega arith, largest-next _ _ (l .r) (l .inv .1) (c .longer .ensures))
+loop-again c = (omega arith, search largest-next)
 
 returns : tie.Need-returns Inv-loop μ-loop
 returns c = c .before .loop .inv .1 ∙ ap (largest _ _) (omega arith)

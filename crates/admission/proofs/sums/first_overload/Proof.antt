@@ -1,9 +1,4 @@
-use Prim.Native.Nat.{_*_, _-_, _≤_}
-use mathlib.Core.Path.{_≡_, refl}
-use native.Mathlib.Omega.{arith}
-use Rattle.units.specs.Folds.{over, lowest}
-use Rattle.units.specs.Folds as Folds
-use Rattle.admission.specs.Admission.{overloaded}
+use Prim.Native.Nat.{_-_}
 use Rattle.admission.proofs.Laws.Sums.{Summed, summed-none, summed-above, summed-next, summed-end}
 use borrow.Author.Needs.{needs}
 use Rattle.admission.proofs.sums.first_overload.Statement.{statement}

@@ -1,11 +1,11 @@
-use Prim.Native.Nat.{ℕ, _+_, _*_, _-_, _≤_}
+use Prim.Native.Nat.{_*_, _-_, _≤_}
 use mathlib.Core.Path.{_≡_, refl, ap, _∙_}
 use native.Mathlib.Omega.{arith}
 use Rattle.units.specs.Folds.{over}
 use Rattle.units.specs.Folds as Folds
-use Rattle.units.proofs.Laws.Folds.{sum-next}
 use Rattle.admission.specs.Admission.{ticksInRound, independentSum}
 use Rattle.table.specs.Table.{D, C, I}
+use Rattle.admission.proofs.Laws.Sums.{sum-on}
 use borrow.Author.Needs.{needs}
 use Rattle.admission.proofs.sums.independent_sum.Statement.{statement}
 use Rattle.admission.proofs.sums.independent_sum.Tie as tie
@@ -39,8 +39,7 @@ loop-less : tie.Need-loop-less Inv-loop μ-loop
 loop-less c = search needs
 
 loop-again : tie.Need-loop-again Inv-loop μ-loop
-loop-again c =
-    let l = c .before .before .before .loop in (omega arith, sum-next _ (l .k) (l .inv .1) (ap (λ (x : ℕ). l .sum + x) (c .ticks-in-round .ensures .0)), omega arith)
+loop-again c = (omega arith, search sum-on, omega arith)
 
 returns : tie.Need-returns Inv-loop μ-loop
 unfolding independentSum
