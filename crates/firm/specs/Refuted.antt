@@ -20,9 +20,8 @@ pub record Refuted (m : Machine) : Type 0 where
   -- "or never finds a table good", by its verdict or at a fresh start
   pub neverGood : ((t : Table) → answer (m .verdict t) .0 ≡ 0 → ⊥) → Numbers m → ⊥
   pub neverStarts : ((t : Table) (now : Tick) → answer (m .fresh t now .verdict) .0 ≡ 0 → ⊥) → Numbers m → ⊥
-  -- "one that names the same task .. always"
+  -- "one that names the same task or full speed always (demand 2's choice rules)"
   pub sameTask : (k : ℕ) → ((t : Table) (s : State) (p : ℕ) → m .choose t s .runner ≡ Job p → p ≡ k) → Choices m → ⊥
-  -- "or full speed always"
   pub fullSpeed : ((t : Table) (s : State) (p : ℕ) → m .choose t s .runner ≡ Job p → m .choose t s .speed ≡ t .full) → Choices m → ⊥
   -- "one that hands the state back untouched (demand 2's state": at a release, a choice or a report
   pub keepsAtRelease : ((t : Table) (s : State) (p : ℕ) → m .release t s p .state ≡ s) → States m → ⊥

@@ -20,7 +20,7 @@ use Rattle.listing.proofs as Listing
 abbrev pub Promised : Ended → Type 1
 Promised T = (κs : Lfts (T .signature .lifetimes)) → Args (T .signature) κs → Res (T .signature) κs → AtExit T κs → Type 0
 
--- Two results that it allows are one; and so are what stands at exit in two parameters, a lent slice among them.
+-- Two results that it allows of the same arguments are one, and so is what it leaves in the parameters: v and w are what is left behind the references, as in a lent slice.
 abbrev pub Single : (T : Ended) → Promised T → Type 0
 Single T P =
     (κs : Lfts (T .signature .lifetimes)) (a : Args (T .signature) κs) (r s : Res (T .signature) κs) (v w : Lasts T κs a)
