@@ -1,15 +1,9 @@
 -- The task table.
 use Prim.Native.Nat.{ℕ}
-use mathlib.Core.Bool.{Bool, _&&_}
-use mathlib.Core.List.{List, []}
-use lib.ListN.{getD}
-use lib.Dec.{ltb}
-use Rattle.units.specs.declared.Ticks.{Ticks}
-use Rattle.units.specs.Amounts.{ticks, steps}
-use Rattle.units.specs.Folds.{first, listed}
-use Rattle.units.specs.Sets.{set, has}
-use Rattle.table.specs.declared.Task.{Task}
-use Rattle.table.specs.declared.Table.{Table}
+use mathlib.Core.{Bool.Bool, Bool._&&_, List.List, List.[]}
+use lib.{ListN.getD, Dec.ltb}
+use Rattle.units.specs.{declared.Ticks.Ticks, Amounts.ticks, Amounts.steps, Folds.first, Folds.listed, Sets.set, Sets.has}
+use Rattle.table.specs.{declared.Task.Task, declared.Table.Table}
 
 -- what is read where no entry stands, and the task at a position
 abbrev pub noTask : Task
