@@ -38,23 +38,34 @@ fn released(task: Task, now: Tick) -> Job
     }
 }
 
-// A job of the task at a position is taken on, or refused: 9, 11, 10, 12.
-pub fn release(table: Table, state: State, position: usize) -> Answer
-    ensures { λ r. ⌜ r ≡ release table state position ⌝ }
+// The number of a release: 9, 11, 10, 12, the first that holds, or 0.
+fn release_number(table: Table, state: State, position: usize) -> u8
+    ensures { λ r. ⌜ r ≡ release table state position .number ⌝ }
 {
     if !consistent(table, state) {
-        return Answer::bare(9, state);
+        return 9;
     }
     let half = state.half;
     if mid_tick(half) {
-        return Answer::bare(11, state);
+        return 11;
     }
     if table.count <= position {
-        return Answer::bare(10, state);
+        return 10;
     }
     let job = state.jobs[position];
     if 0 < job.wait.0 {
-        return Answer::bare(12, state);
+        return 12;
+    }
+    0
+}
+
+// A job of the task at a position is taken on, or refused.
+pub fn release(table: Table, state: State, position: usize) -> Answer
+    ensures { λ r. ⌜ r ≡ release table state position ⌝ }
+{
+    let number = release_number(table, state, position);
+    if number != 0 {
+        return Answer::bare(number, state);
     }
     let task = table.tasks[position];
     let mut next = state;

@@ -5,12 +5,11 @@ use mir.Syntax.{w64}
 use mir.Val.{Fits}
 use borrow.Author.Needs.{scaled-fits}
 use native.Mathlib.Omega.{arith}
-use Rattle.units.proofs.Laws.Tests.{passed}
 use mathlib.Core.Bool.{Bool, true, false, not, cond}
 use lib.ListN.{length, set}
 use lib.Seq.{getD-set-same, getD-set-other}
 use lib.Dec.{ltb, leb}
-use borrow.Author.Tests.{ltb-true, lt-ltb, le-ltb, lt-leb, le-leb}
+use borrow.Author.Tests.{ltb-true, ltb-false, leb-false, lt-ltb, le-ltb, lt-leb, le-leb}
 use Rattle.table.specs.declared.Table.{Table}
 use Rattle.table.specs.Table.{taskAt}
 use Rattle.admission.proofs.Laws.Admitted.{admitted}
@@ -32,13 +31,8 @@ use Rattle.machine.specs.Machine.{midTick, released, releasedAt, release
 pub few : (t : Table) (s : State) → consistent t s ≡ true → t .count ≤ 16
 few t s h = admitted t (consistent-tells t s h .passes) .count .high
 
--- a position in the table, as release has tested it, is one of the sixteen
-module _ (t : Table) (s : State) (p : ℕ) {r : Bool} (e : r ≡ consistent t s) (h : not r ≡ false) (l : p < t .count) where
-  pub placed : p < 16
-  placed = omega (arith, few t s (passed e h))
-
-  pub placed-fits : (k : ℕ) → ltb (16 * k) (2 ^ 63) ≡ true → Fits w64 (p * k)
-  placed-fits k small = scaled-fits p 16 k placed (ltb-true _ _ small)
+pub small-fits : (p k : ℕ) → p < 16 → ltb (16 * k) (2 ^ 63) ≡ true → Fits w64 (p * k)
+small-fits p k l h = scaled-fits p 16 k l (ltb-true _ _ h)
 
 module _ (t : Table) (s : State) where
   pub release-9 : (p : ℕ) → consistent t s ≡ false → release t s p ≡ bare 9 s
@@ -90,9 +84,34 @@ module _ (t : Table) (s : State) where
       unfolding release
       release-taken p l w = simp (good, between, lt-leb _ _ l, le-ltb _ _ w)
 
-      pub release-takes : (p : ℕ) → p < t .count → jobAt s p .wait .0 ≤ 0 → (j : Job) → j ≡ released (taskAt t p) (s .tick .0)
-          → release t s p ≡ bare 0 (record { tick = s .tick; jobs = set (s .jobs) p j; mark = s .mark; half = s .half; runner = s .runner })
-      release-takes p l w j e = rw e (release-taken p l w)
+-- the number of a release
+module _ (t : Table) (s : State) (p : ℕ) where
+  pub number-of : (n : ℕ) → release t s p ≡ bare n s → n ≡ release t s p .number
+  number-of n e = sym (ap (λ (a : Answer). a .number) e)
+
+  pub number-0 : release t s p ≡ bare 0 (releasedAt t s p) → 0 ≡ release t s p .number
+  number-0 e = sym (ap (λ (a : Answer). a .number) e)
+
+  -- one that is 0 says that every test was passed
+  pub record Taken : Type 0 where
+    pub good : consistent t s ≡ true
+    pub between : midTick (s .half) ≡ false
+    pub there : p < t .count
+    pub due : jobAt s p .wait .0 ≤ 0
+
+  pub taken : release t s p .number ≡ 0 → Taken
+  unfolding release
+  taken = go (consistent t s) refl (midTick (s .half)) refl (leb (t .count) p) refl (ltb 0 (jobAt s p .wait .0)) refl
+    where
+      number : Bool → Bool → Bool → Bool → ℕ
+      number a b c d = cond (not a) (bare 9 s) (cond b (bare 11 s) (cond c (bare 10 s) (cond d (bare 12 s) (bare 0 (releasedAt t s p))))) .number
+
+      go : (a : Bool) → consistent t s ≡ a → (b : Bool) → midTick (s .half) ≡ b → (c : Bool) → leb (t .count) p ≡ c → (d : Bool) → ltb 0 (jobAt s p .wait .0) ≡ d → number a b c d ≡ 0 → Taken
+      go false e b f c g d h z = absurd (omega arith)
+      go true e true f c g d h z = absurd (omega arith)
+      go true e false f true g d h z = absurd (omega arith)
+      go true e false f false g true h z = absurd (omega arith)
+      go true e false f false g false h z = record { good = e; between = f; there = leb-false _ _ g; due = ltb-false _ _ h }
 
 -- what a release that is taken does to each job
 module _ (t : Table) (s : State) (p : ℕ) where

@@ -1,47 +1,43 @@
-use Rattle.machine.proofs.Laws.Told.{told}
-use Rattle.machine.proofs.Laws.Calls.{placed, placed-fits, release-9, release-11, release-10, release-12, release-takes}
+use Prim.Native.Nat.{ℕ, _<_}
+use mathlib.Core.Path.{_≡_, sym, _∙_}
+use native.Mathlib.Omega.{arith}
+use lib.ListN.{set}
+use Rattle.table.specs.declared.Table.{Table}
+use Rattle.table.specs.Table.{taskAt}
+use Rattle.state.specs.declared.Job.{Job}
+use Rattle.state.specs.declared.State.{State}
+use Rattle.state.specs.declared.Answer.{Answer}
+use Rattle.state.specs.Answers.{bare}
+use Rattle.machine.specs.Machine.{released, release}
+use Rattle.machine.proofs.Laws.Calls.{few, small-fits, taken, release-taken, release-refused}
 use borrow.Author.Needs.{needs}
 use Rattle.machine.proofs.release.Statement.{statement}
 use Rattle.machine.proofs.release.Tie as tie
 
-consistent-requires : tie.Need-consistent-requires
-consistent-requires c κs = search needs
+-- with the number found
+module _ (t : Table) (s : State) (p number : ℕ) (e : number ≡ release t s p .number) where
+  refused : (number ≡ 0 → ⊥) → (a : Answer) → a ≡ bare number s → a ≡ release t s p
+  refused h a f = f ∙ rw e (sym (release-refused t s p (λ z. h (e ∙ z))))
+
+  module _ (z : number ≡ 0) where
+    placed : p < 16
+    placed = let h = taken t s p (sym e ∙ z) in omega (arith, few t s (h .good))
+
+    takes : (j : Job) → j ≡ released (taskAt t p) (s .tick .0)
+        → (a : Answer) → a ≡ bare 0 (record { tick = s .tick; jobs = set (s .jobs) p j; mark = s .mark; half = s .half; runner = s .runner }) → a ≡ release t s p
+    takes j f a g = let h = taken t s p (sym e ∙ z) in g ∙ rw f (sym (release-taken t s (h .good) (h .between) p (h .there) (h .due)))
+
+release-number-requires : tie.Need-release-number-requires
+release-number-requires c κs = search needs
 
 bare-requires : tie.Need-bare-requires
 bare-requires c κs = search needs
 
 returns : tie.Need-returns
-returns c = search (told, release-9)
-
-mid-tick-requires : tie.Need-mid-tick-requires
-mid-tick-requires c κs = search needs
-
-bare-requires-2 : tie.Need-bare-requires-2
-bare-requires-2 c κs = search needs
-
-returns-2 : tie.Need-returns-2
-returns-2 c = search (told, release-11)
-
-bare-requires-3 : tie.Need-bare-requires-3
-bare-requires-3 c κs = search needs
-
-returns-3 : tie.Need-returns-3
-returns-3 c = search (told, release-10)
-
-mul-job : tie.Need-mul-job
-mul-job c = search placed-fits
-
-element-copy-out-job : tie.Need-element-copy-out-job
-element-copy-out-job c = search placed
-
-bare-requires-4 : tie.Need-bare-requires-4
-bare-requires-4 c κs = search needs
-
-returns-4 : tie.Need-returns-4
-returns-4 c = search (told, release-12)
+returns c = search refused
 
 mul-task : tie.Need-mul-task
-mul-task c = search placed-fits
+mul-task c = search (small-fits, placed)
 
 element-copy-out-task : tie.Need-element-copy-out-task
 element-copy-out-task c = search placed
@@ -49,38 +45,29 @@ element-copy-out-task c = search placed
 released-requires : tie.Need-released-requires
 released-requires c κs = search needs
 
-mul-t17 : tie.Need-mul-t17
-mul-t17 c = search placed-fits
+mul-t10 : tie.Need-mul-t10
+mul-t10 c = search (small-fits, placed)
 
 element-set-from-next : tie.Need-element-set-from-next
 element-set-from-next c = search placed
 
-bare-requires-5 : tie.Need-bare-requires-5
-bare-requires-5 c κs = search needs
+bare-requires-2 : tie.Need-bare-requires-2
+bare-requires-2 c κs = search needs
 
-returns-5 : tie.Need-returns-5
-returns-5 c = search (told, release-takes)
+returns-2 : tie.Need-returns-2
+returns-2 c = search takes
 
 pub release-spec : {M : Type 1} → statement M
 release-spec =
     tie.close
     (tie.spec
-    consistent-requires
+    release-number-requires
     bare-requires
     returns
-    mid-tick-requires
-    bare-requires-2
-    returns-2
-    bare-requires-3
-    returns-3
-    mul-job
-    element-copy-out-job
-    bare-requires-4
-    returns-4
     mul-task
     element-copy-out-task
     released-requires
-    mul-t17
+    mul-t10
     element-set-from-next
-    bare-requires-5
-    returns-5)
+    bare-requires-2
+    returns-2)

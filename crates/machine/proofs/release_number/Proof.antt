@@ -1,0 +1,58 @@
+use Prim.Native.Nat.{ℕ, _<_}
+use mathlib.Core.Path.{_≡_}
+use mathlib.Core.Bool.{Bool, false, not}
+use native.Mathlib.Omega.{arith}
+use Rattle.units.proofs.Laws.Tests.{passed}
+use Rattle.table.specs.declared.Table.{Table}
+use Rattle.state.specs.declared.State.{State}
+use Rattle.consistency.specs.Consistency.{consistent}
+use Rattle.machine.proofs.Laws.Told.{told}
+use Rattle.machine.proofs.Laws.Calls.{few, small-fits, number-of, number-0, release-9, release-11, release-10, release-12, release-taken}
+use borrow.Author.Needs.{needs}
+use Rattle.machine.proofs.release_number.Statement.{statement}
+use Rattle.machine.proofs.release_number.Tie as tie
+
+-- a position in the table is one of the sixteen
+placed : (t : Table) (s : State) (p : ℕ) (r : Bool) → p < t .count → r ≡ consistent t s → not r ≡ false → p < 16
+placed t s p r l e h = omega (arith, few t s (passed e h))
+
+consistent-requires : tie.Need-consistent-requires
+consistent-requires c κs = search needs
+
+returns : tie.Need-returns
+returns c = search (told, number-of, release-9)
+
+mid-tick-requires : tie.Need-mid-tick-requires
+mid-tick-requires c κs = search needs
+
+returns-2 : tie.Need-returns-2
+returns-2 c = search (told, number-of, release-11)
+
+returns-3 : tie.Need-returns-3
+returns-3 c = search (told, number-of, release-10)
+
+mul-job : tie.Need-mul-job
+mul-job c = search (small-fits, placed)
+
+element-copy-out-job : tie.Need-element-copy-out-job
+element-copy-out-job c = search placed
+
+returns-4 : tie.Need-returns-4
+returns-4 c = search (told, number-of, release-12)
+
+returns-5 : tie.Need-returns-5
+returns-5 c = search (told, number-0, release-taken)
+
+pub release-number-spec : {M : Type 1} → statement M
+release-number-spec =
+    tie.close
+    (tie.spec
+    consistent-requires
+    returns
+    mid-tick-requires
+    returns-2
+    returns-3
+    mul-job
+    element-copy-out-job
+    returns-4
+    returns-5)
