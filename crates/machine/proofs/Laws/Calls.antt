@@ -1,19 +1,20 @@
 -- What each call answers, case by case, in the order of its numbers. Assumes nothing.
 use Prim.Native.Nat.{ℕ, _*_, _^_, _≤_, _<_}
 use mathlib.Core.Path.{_≡_, refl, sym, ap, _∙_}
+use mathlib.Core.Bool.{Bool, true, false, not, cond}
+use mathlib.Core.Logic.{_⊎_, inl, inr}
+use native.Mathlib.Decide.{decLe, decLt}
+use native.Mathlib.Omega.{arith}
+use lib.ListN.{length}
+use lib.Seq.{getD-set-same, getD-set-other}
+use lib.Dec.{ltb}
 use mir.Syntax.{w64}
 use mir.Val.{Fits}
 use borrow.Author.Needs.{scaled-fits}
-use native.Mathlib.Omega.{arith}
-use mathlib.Core.Bool.{Bool, true, false, not, cond}
-use lib.ListN.{length, set}
-use lib.Seq.{getD-set-same, getD-set-other}
-use lib.Dec.{ltb, leb}
-use borrow.Author.Tests.{ltb-true, ltb-false, leb-false, lt-ltb, le-ltb, lt-leb, le-leb}
+use borrow.Author.Tests.{ltb-true, lt-ltb, le-ltb, lt-leb, le-leb}
 use Rattle.table.specs.declared.Table.{Table}
 use Rattle.table.specs.Table.{taskAt}
 use Rattle.admission.proofs.Laws.Admitted.{admitted}
-use Rattle.state.specs.declared.Job.{Job}
 use Rattle.state.specs.declared.State.{State}
 use Rattle.state.specs.declared.Answer.{Answer}
 use Rattle.state.specs.declared.Report.{Report}
@@ -84,34 +85,52 @@ module _ (t : Table) (s : State) where
       unfolding release
       release-taken p l w = simp (good, between, lt-leb _ _ l, le-ltb _ _ w)
 
--- the number of a release
+-- a release is taken, with every test passed, or refused
 module _ (t : Table) (s : State) (p : ℕ) where
-  pub number-of : (n : ℕ) → release t s p ≡ bare n s → n ≡ release t s p .number
-  number-of n e = sym (ap (λ (a : Answer). a .number) e)
-
-  pub number-0 : release t s p ≡ bare 0 (releasedAt t s p) → 0 ≡ release t s p .number
-  number-0 e = sym (ap (λ (a : Answer). a .number) e)
-
-  -- one that is 0 says that every test was passed
   pub record Taken : Type 0 where
     pub good : consistent t s ≡ true
     pub between : midTick (s .half) ≡ false
     pub there : p < t .count
     pub due : jobAt s p .wait .0 ≤ 0
 
-  pub taken : release t s p .number ≡ 0 → Taken
-  unfolding release
-  taken = go (consistent t s) refl (midTick (s .half)) refl (leb (t .count) p) refl (ltb 0 (jobAt s p .wait .0)) refl
-    where
-      number : Bool → Bool → Bool → Bool → ℕ
-      number a b c d = cond (not a) (bare 9 s) (cond b (bare 11 s) (cond c (bare 10 s) (cond d (bare 12 s) (bare 0 (releasedAt t s p))))) .number
+  record Refused : Type 0 where
+    number : ℕ
+    some : 0 < number
+    answer : release t s p ≡ bare number s
 
-      go : (a : Bool) → consistent t s ≡ a → (b : Bool) → midTick (s .half) ≡ b → (c : Bool) → leb (t .count) p ≡ c → (d : Bool) → ltb 0 (jobAt s p .wait .0) ≡ d → number a b c d ≡ 0 → Taken
-      go false e b f c g d h z = absurd (omega arith)
-      go true e true f c g d h z = absurd (omega arith)
-      go true e false f true g d h z = absurd (omega arith)
-      go true e false f false g true h z = absurd (omega arith)
-      go true e false f false g false h z = record { good = e; between = f; there = leb-false _ _ g; due = ltb-false _ _ h }
+  decided : Taken ⊎ Refused
+  decided = go (consistent t s) refl (midTick (s .half)) refl (decLt p (t .count)) (decLe (jobAt s p .wait .0) 0)
+    where
+      go : (a : Bool) → consistent t s ≡ a → (b : Bool) → midTick (s .half) ≡ b → Dec (p < t .count) → Dec (jobAt s p .wait .0 ≤ 0) → Taken ⊎ Refused
+      go false e b f l w = inr (record { number = 9; some = omega arith; answer = release-9 t s p e })
+      go true e true f l w = inr (record { number = 11; some = omega arith; answer = release-11 t s e p f })
+      go true e false f (no l) w = inr (record { number = 10; some = omega arith; answer = release-10 t s e f p (omega arith) })
+      go true e false f (yes l) (no w) = inr (record { number = 12; some = omega arith; answer = release-12 t s e f p l (omega arith) })
+      go true e false f (yes l) (yes w) = inl (record { good = e; between = f; there = l; due = w })
+
+  taken-answer : Taken → release t s p ≡ bare 0 (releasedAt t s p)
+  taken-answer h = release-taken t s (h .good) (h .between) p (h .there) (h .due)
+
+  -- its number
+  pub number-of : (n : ℕ) → release t s p ≡ bare n s → n ≡ release t s p .number
+  number-of n e = sym (ap (λ (a : Answer). a .number) e)
+
+  pub number-0 : release t s p ≡ bare 0 (releasedAt t s p) → 0 ≡ release t s p .number
+  number-0 e = sym (ap (λ (a : Answer). a .number) e)
+
+  pub taken : release t s p .number ≡ 0 → Taken
+  taken z = go decided
+    where
+      go : Taken ⊎ Refused → Taken
+      go (inl h) = h
+      go (inr h) = absurd (omega (arith, number-of (h .number) (h .answer)))
+
+  pub release-refused : (release t s p .number ≡ 0 → ⊥) → release t s p ≡ bare (release t s p .number) s
+  release-refused f = go decided
+    where
+      go : Taken ⊎ Refused → release t s p ≡ bare (release t s p .number) s
+      go (inl h) = absurd (f (sym (number-0 (taken-answer h))))
+      go (inr h) = h .answer ∙ ap (λ (n : ℕ). bare n s) (number-of (h .number) (h .answer))
 
 -- what a release that is taken does to each job
 module _ (t : Table) (s : State) (p : ℕ) where
@@ -123,20 +142,6 @@ module _ (t : Table) (s : State) (p : ℕ) where
 
 -- a call that is refused returns the state as it went in, and no job
 module _ (t : Table) (s : State) where
-  pub release-refused : (p : ℕ) → (release t s p .number ≡ 0 → ⊥) → release t s p ≡ bare (release t s p .number) s
-  unfolding release
-  release-refused p h = go (consistent t s) (midTick (s .half)) (leb (t .count) p) (ltb 0 (jobAt s p .wait .0)) h
-    where
-      all : Bool → Bool → Bool → Bool → Answer
-      all a b c d = cond (not a) (bare 9 s) (cond b (bare 11 s) (cond c (bare 10 s) (cond d (bare 12 s) (bare 0 (releasedAt t s p)))))
-
-      go : (a b c d : Bool) → (all a b c d .number ≡ 0 → ⊥) → all a b c d ≡ bare (all a b c d .number) s
-      go false b c d h = refl
-      go true true c d h = refl
-      go true false true d h = refl
-      go true false false true h = refl
-      go true false false false h = absurd (h refl)
-
   pub choose-refused : (choose t s .number ≡ 0 → ⊥) → choose t s ≡ bare (choose t s .number) s
   unfolding choose
   choose-refused h = go (consistent t s) (midTick (s .half)) h

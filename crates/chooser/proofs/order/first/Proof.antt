@@ -1,12 +1,12 @@
 use Prim.Native.Nat.{_≤_, _-_}
 use mathlib.Core.Path.{_≡_, refl, _∙_, ap}
-use native.Mathlib.Omega.{arith}
 use mathlib.Core.Bool.{cond}
+use native.Mathlib.Omega.{arith}
 use Rattle.units.specs.Folds.{over, smallest}
 use Rattle.state.specs.State.{jobAt}
 use Rattle.state.specs.Order.{firstInOrder, placeAt, noPlace, isStarted, isPending}
-use borrow.Author.Needs.{needs}
 use Rattle.chooser.proofs.Laws.Loops.{smallest-yet}
+use borrow.Author.Needs.{needs}
 use Rattle.chooser.proofs.order.first.Statement.{statement}
 use Rattle.chooser.proofs.order.first.Tie as tie
 

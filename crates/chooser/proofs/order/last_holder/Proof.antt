@@ -1,23 +1,23 @@
 use Prim.Native.Nat.{ℕ, _+_, _-_, _≤_, max}
-use mathlib.Core.Bool.{Bool, cond, _&&_}
 use mathlib.Core.Path.{_≡_, refl, _∙_, ap}
+use mathlib.Core.Bool.{Bool, cond, _&&_}
 use native.Mathlib.Omega.{arith}
 use lib.Dec.{ltb}
 use Rattle.units.specs.Folds.{over, largest}
 use Rattle.units.proofs.Laws.Folds.{largest-next}
+use Rattle.state.specs.declared.State.{State}
 use Rattle.state.specs.State.{jobAt}
 use Rattle.state.specs.Order.{lastHolder, placeAt, isHolder}
 use borrow.Author.Needs.{needs}
-use Rattle.state.specs.declared.State.{State}
 use Rattle.chooser.proofs.order.last_holder.Statement.{statement}
 use Rattle.chooser.proofs.order.last_holder.Tie as tie
 
 abbrev counts : State → ℕ → ℕ → Bool
 counts s place k = isHolder (jobAt s k) && ltb place (placeAt s k)
 
-turn : (s : State) (place n : ℕ) {m m′ k : ℕ} {b : Bool} → m′ ≡ cond b (max m k) m → b ≡ isHolder (jobAt s n) && ltb place k → k ≡ placeAt s n
+again : (s : State) (place n : ℕ) {m m′ k : ℕ} {b : Bool} → m′ ≡ cond b (max m k) m → b ≡ isHolder (jobAt s n) && ltb place k → k ≡ placeAt s n
     → m ≡ largest (counts s place) (placeAt s) n → m′ ≡ largest (counts s place) (placeAt s) (n + 1)
-turn s place n h e g before = largest-next _ _ n before (h ∙ rw (e, g))
+again s place n h e g before = largest-next _ _ n before (h ∙ rw (e, g))
 
 abbrev Inv-loop : tie.InvT-loop
 Inv-loop behind self best₀ k₀ best k =
@@ -55,7 +55,7 @@ loop-less : tie.Need-loop-less Inv-loop μ-loop
 loop-less c = search needs
 
 loop-again : tie.Need-loop-again Inv-loop μ-loop
-loop-again c = (omega arith, search turn)
+loop-again c = (omega arith, search again)
 
 returns : tie.Need-returns Inv-loop μ-loop
 unfolding lastHolder

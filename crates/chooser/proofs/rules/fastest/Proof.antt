@@ -1,6 +1,5 @@
-use borrow.Author.Needs.{needs}
 use Prim.Native.Nat.{_≤_, _-_}
-use mathlib.Core.Path.{_≡_, refl, _∙_}
+use mathlib.Core.Path.{_≡_, refl}
 use mathlib.Core.Bool.{_&&_}
 use native.Mathlib.Omega.{arith}
 use lib.Dec.{ltb, leb}
@@ -8,6 +7,7 @@ use Rattle.units.specs.Folds.{over, largest}
 use Rattle.table.specs.Table.{D, S}
 use Rattle.choice.specs.Choice.{fastest}
 use Rattle.chooser.proofs.Laws.Loops.{largest-yet}
+use borrow.Author.Needs.{needs}
 use Rattle.chooser.proofs.rules.fastest.Statement.{statement}
 use Rattle.chooser.proofs.rules.fastest.Tie as tie
 

@@ -1,28 +1,28 @@
 use Prim.Native.Nat.{ℕ, _+_, _-_, _≤_, min}
-use mathlib.Core.Bool.{Bool, cond, _&&_}
-use Rattle.units.specs.declared.Ticks.{Ticks}
-use borrow.Author.Needs.{needs}
 use mathlib.Core.Path.{_≡_, refl, _∙_, ap}
+use mathlib.Core.Bool.{Bool, cond, _&&_}
 use native.Mathlib.Omega.{arith}
 use lib.Dec.{ltb}
+use Rattle.units.specs.declared.Ticks.{Ticks}
 use Rattle.units.specs.Amounts.{ticks}
 use Rattle.units.specs.Folds.{over, smallest}
 use Rattle.units.proofs.Laws.Folds.{smallest-next}
+use Rattle.table.specs.declared.Table.{Table}
 use Rattle.table.specs.Table.{D}
+use Rattle.state.specs.declared.State.{State}
 use Rattle.state.specs.State.{jobAt}
 use Rattle.state.specs.Order.{placeAt}
 use Rattle.choice.specs.Choice.{shortestAhead}
-use Rattle.table.specs.declared.Table.{Table}
-use Rattle.state.specs.declared.State.{State}
+use borrow.Author.Needs.{needs}
 use Rattle.chooser.proofs.rules.shortest_ahead.Statement.{statement}
 use Rattle.chooser.proofs.rules.shortest_ahead.Tie as tie
 
 abbrev ahead : State → ℕ → ℕ → Bool
 ahead s run k = jobAt s k .pending && ltb (placeAt s k) run
 
-turn : (t : Table) (s : State) (run n : ℕ) {m m′ : Ticks} {k : ℕ} {b : Bool} → m′ ≡ ticks (cond b (min (m .0) (D t n)) (m .0)) → b ≡ jobAt s n .pending && ltb k run → k ≡ placeAt s n
+again : (t : Table) (s : State) (run n : ℕ) {m m′ : Ticks} {k : ℕ} {b : Bool} → m′ ≡ ticks (cond b (min (m .0) (D t n)) (m .0)) → b ≡ jobAt s n .pending && ltb k run → k ≡ placeAt s n
     → m .0 ≡ smallest (ahead s run) (D t) 65535 n → m′ .0 ≡ smallest (ahead s run) (D t) 65535 (n + 1)
-turn t s run n h e g before = smallest-next _ _ _ n before (ap (λ (d : Ticks). d .0) h ∙ rw (e, g))
+again t s run n h e g before = smallest-next _ _ _ n before (ap (λ (d : Ticks). d .0) h ∙ rw (e, g))
 
 abbrev Inv-loop : tie.InvT-loop
 Inv-loop run table state best₀ k₀ best k =
@@ -66,7 +66,7 @@ loop-less : tie.Need-loop-less Inv-loop μ-loop
 loop-less c = search needs
 
 loop-again : tie.Need-loop-again Inv-loop μ-loop
-loop-again c = (omega arith, search turn)
+loop-again c = (omega arith, search again)
 
 returns : tie.Need-returns Inv-loop μ-loop
 unfolding shortestAhead

@@ -1,19 +1,19 @@
 use Prim.Native.Nat.{ℕ, _-_, _≤_, _<_}
-use mathlib.Core.Bool.{Bool, true, false, not, _&&_}
-use Rattle.table.specs.Table.{D, ceilings}
-use Rattle.units.proofs.Laws.Folds.{some-holds}
-use borrow.Author.Needs.{needs}
 use mathlib.Core.Path.{_≡_, refl, sym, _∙_}
+use mathlib.Core.Bool.{Bool, true, false, not, _&&_}
+use mathlib.Core.List.{List}
 use native.Mathlib.Omega.{arith}
 use lib.Dec.{eqb}
+use Rattle.units.specs.declared.Ticks.{Ticks}
 use Rattle.units.specs.Folds.{over, some}
+use Rattle.units.proofs.Laws.Folds.{some-holds}
+use Rattle.table.specs.declared.Table.{Table}
+use Rattle.table.specs.Table.{D, ceilings}
+use Rattle.state.specs.declared.State.{State}
 use Rattle.state.specs.State.{jobAt}
 use Rattle.choice.specs.Choice.{bars, blocked}
-use mathlib.Core.List.{List}
-use Rattle.units.specs.declared.Ticks.{Ticks}
-use Rattle.table.specs.declared.Table.{Table}
-use Rattle.state.specs.declared.State.{State}
 use Rattle.chooser.proofs.Laws.Loops.{none-yet}
+use borrow.Author.Needs.{needs}
 use Rattle.chooser.proofs.runner.blocked.Statement.{statement}
 use Rattle.chooser.proofs.runner.blocked.Tie as tie
 

@@ -1,8 +1,8 @@
 use Prim.Native.Nat.{ℕ, _+_, _-_, _≤_}
 use mathlib.Core.Path.{_≡_, refl, _∙_}
+use mathlib.Core.List.{List}
 use native.Mathlib.Nat.{le-trans, le-of-eq}
 use native.Mathlib.Omega.{arith}
-use mathlib.Core.List.{List}
 use lib.ListN.{length, getD, set}
 use Rattle.units.proofs.Laws.Folds.{long}
 use Rattle.state.specs.declared.Job.{Job}
@@ -13,8 +13,8 @@ use borrow.Author.Needs.{needs}
 use Rattle.reporter.proofs.closing.waits.Statement.{statement}
 use Rattle.reporter.proofs.closing.waits.Tie as tie
 
-turn : (l : List Job) (k : ℕ) {next : List Job} {j : Job} → j ≡ waited (getD next k noJob) → next ≡ part waited k l → set next k j ≡ part waited (k + 1) l
-turn l k h before = rw (h, before) (part-more waited k l noJob)
+again : (l : List Job) (k : ℕ) {next : List Job} {j : Job} → j ≡ waited (getD next k noJob) → next ≡ part waited k l → set next k j ≡ part waited (k + 1) l
+again l k h before = rw (h, before) (part-more waited k l noJob)
 
 abbrev Inv-loop : tie.InvT-loop
 Inv-loop next₀ k₀ next k = (k ≤ 16) × (next ≡ part waited k next₀)
@@ -47,7 +47,7 @@ loop-less : tie.Need-loop-less Inv-loop μ-loop
 loop-less c = search needs
 
 loop-again : tie.Need-loop-again Inv-loop μ-loop
-loop-again c = (omega arith, search turn)
+loop-again c = (omega arith, search again)
 
 returns : tie.Need-returns Inv-loop μ-loop
 returns c =

@@ -11,8 +11,8 @@ use borrow.Author.Needs.{needs}
 use Rattle.reporter.proofs.objection.held.Statement.{statement}
 use Rattle.reporter.proofs.objection.held.Tie as tie
 
-turn : (s : State) (k : ℕ) {found next : ℕ} → next ≡ withHeld found (jobAt s k .held) → found ≡ heldBelow s k → next ≡ heldBelow s (k + 1)
-turn s k h before = h ∙ rw before (held-next s k _ refl)
+again : (s : State) (k : ℕ) {found next : ℕ} → next ≡ withHeld found (jobAt s k .held) → found ≡ heldBelow s k → next ≡ heldBelow s (k + 1)
+again s k h before = h ∙ rw before (held-next s k _ refl)
 
 abbrev Inv-loop : tie.InvT-loop
 Inv-loop self found₀ k₀ found k = (k ≤ 16) × (found ≡ heldBelow self k)
@@ -40,7 +40,7 @@ loop-less : tie.Need-loop-less Inv-loop μ-loop
 loop-less c = search needs
 
 loop-again : tie.Need-loop-again Inv-loop μ-loop
-loop-again c = (omega arith, search turn)
+loop-again c = (omega arith, search again)
 
 returns : tie.Need-returns Inv-loop μ-loop
 unfolding heldResources
