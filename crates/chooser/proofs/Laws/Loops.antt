@@ -1,4 +1,5 @@
--- One turn of a loop that gathers, from what was found before it and what the calls of the turn gave: `search LAW` finds each, wherever it stands in the record of a place. Assumes nothing.
+-- One turn of a loop that gathers, from what was found before it and what the calls of the turn gave: `search LAW` finds each, wherever it stands in the record of a place.
+-- What the goal shows comes first: held against every fact that is known there, the rest would take too long. Assumes nothing.
 use Prim.Native.Nat.{ℕ, _+_, min, max}
 use mathlib.Core.Path.{_≡_, sym, _∙_}
 use mathlib.Core.Bool.{Bool, false, cond}

@@ -32,6 +32,7 @@ use Rattle.machine.specs.Machine.{midTick, released, releasedAt, release
 pub few : (t : Table) (s : State) → consistent t s ≡ true → t .count ≤ 16
 few t s h = admitted t (consistent-tells t s h .passes) .count .high
 
+-- where an array of sixteen has its element at p, of k bytes each
 pub small-fits : (p k : ℕ) → p < 16 → ltb (16 * k) (2 ^ 63) ≡ true → Fits w64 (p * k)
 small-fits p k l h = scaled-fits p 16 k l (ltb-true _ _ h)
 
@@ -108,7 +109,7 @@ module _ (t : Table) (s : State) (p : ℕ) where
       go true e false f (yes l) (no w) = inr (record { number = 12; some = omega arith; answer = release-12 t s e f p l (omega arith) })
       go true e false f (yes l) (yes w) = inl (record { good = e; between = f; there = l; due = w })
 
-  taken-answer : Taken → release t s p ≡ bare 0 (releasedAt t s p)
+  pub taken-answer : Taken → release t s p ≡ bare 0 (releasedAt t s p)
   taken-answer h = release-taken t s (h .good) (h .between) p (h .there) (h .due)
 
   -- its number

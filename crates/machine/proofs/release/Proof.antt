@@ -9,7 +9,7 @@ use Rattle.state.specs.declared.State.{State}
 use Rattle.state.specs.declared.Answer.{Answer}
 use Rattle.state.specs.Answers.{bare}
 use Rattle.machine.specs.Machine.{released, release}
-use Rattle.machine.proofs.Laws.Calls.{few, small-fits, taken, release-taken, release-refused}
+use Rattle.machine.proofs.Laws.Calls.{few, small-fits, Taken, taken, taken-answer, release-refused}
 use borrow.Author.Needs.{needs}
 use Rattle.machine.proofs.release.Statement.{statement}
 use Rattle.machine.proofs.release.Tie as tie
@@ -20,12 +20,15 @@ module _ (t : Table) (s : State) (p number : ℕ) (e : number ≡ release t s p 
   refused h a f = f ∙ rw e (sym (release-refused t s p (λ z. h (e ∙ z))))
 
   module _ (z : number ≡ 0) where
+    all : Taken t s p
+    all = taken t s p (sym e ∙ z)
+
     placed : p < 16
-    placed = let h = taken t s p (sym e ∙ z) in omega (arith, few t s (h .good))
+    placed = omega (arith, all, few t s (all .good))
 
     takes : (j : Job) → j ≡ released (taskAt t p) (s .tick .0)
         → (a : Answer) → a ≡ bare 0 (record { tick = s .tick; jobs = set (s .jobs) p j; mark = s .mark; half = s .half; runner = s .runner }) → a ≡ release t s p
-    takes j f a g = let h = taken t s p (sym e ∙ z) in g ∙ rw f (sym (release-taken t s (h .good) (h .between) p (h .there) (h .due)))
+    takes j f a g = g ∙ rw f (sym (taken-answer t s p all))
 
 release-number-requires : tie.Need-release-number-requires
 release-number-requires c κs = search needs
