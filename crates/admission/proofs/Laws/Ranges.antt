@@ -24,27 +24,28 @@ pub record CountFits (t : Table) : Type 0 where
   pub low : 1 ≤ t .count
   pub high : t .count ≤ 16
 
-pub count-tells : (t : Table) → countInRange t ≡ true → CountFits t
-unfolding countInRange
-count-tells t h = search parts
-
-pub count-holds : (t : Table) → CountFits t → countInRange t ≡ true
-unfolding countInRange
-count-holds t h = search tests
-
 pub record SettingFits (t : Table) : Type 0 where
   pub full-low : 1 ≤ t .full
   pub full-high : t .full ≤ 64
   pub round-low : 1 ≤ t .round
   pub round-high : t .round ≤ 1000000
 
-pub setting-tells : (t : Table) → settingInRange t ≡ true → SettingFits t
-unfolding settingInRange
-setting-tells t h = search parts
+module _ (t : Table) where
+  pub count-tells : countInRange t ≡ true → CountFits t
+  unfolding countInRange
+  count-tells h = search parts
 
-pub setting-holds : (t : Table) → SettingFits t → settingInRange t ≡ true
-unfolding settingInRange
-setting-holds t h = search tests
+  pub setting-tells : settingInRange t ≡ true → SettingFits t
+  unfolding settingInRange
+  setting-tells h = search parts
+
+  pub count-holds : CountFits t → countInRange t ≡ true
+  unfolding countInRange
+  count-holds h = search tests
+
+  pub setting-holds : SettingFits t → settingInRange t ≡ true
+  unfolding settingInRange
+  setting-holds h = search tests
 
 pub record NumbersFit (f : ℕ) (k : Task) : Type 0 where
   pub d-low : 1 ≤ k .deadline .0
@@ -64,13 +65,13 @@ pub range-holds : (f : ℕ) (k : Task) → NumbersFit f k → inRange f k ≡ al
 unfolding inRange
 range-holds f k h = sym (search tests)
 
--- past that test, the round can be divided by D
+-- past the test of range, the round can be divided by D
 pub divides-by : (full : ℕ) (task : Task) {r : Bool} → r ≡ inRange full task → not r ≡ false → 0 < task .deadline .0
 divides-by full task e h = range-tells full task (passed e h) .0 .d-low
 
 -- a position at fault, and one that is not
 module _ (t : Table) (k : ℕ) {v : Verdict} (e : v ≡ faultAt t k) where
-  pub at-fault : (answer v .0 ≡ 0 → ⊥) → faulty t k ≡ true
+  at-fault : (answer v .0 ≡ 0 → ⊥) → faulty t k ≡ true
   unfolding faulty
   at-fault h = ap not (ne-eqb _ _ (λ z. h (ap (λ (v : Verdict). answer v .0) e ∙ z)))
 

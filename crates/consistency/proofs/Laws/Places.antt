@@ -80,13 +80,12 @@ module _ (t : Table) (s : State) where
     pub walk-unfit : positionFits t s n ≡ false → false ≡ positionsFit t s
     walk-unfit h = no-test _ (λ e. false≢true (sym h ∙ all-tells _ 16 (places-tells e .0) n l))
 
-    module _ {m : ℕ} (w : Walked m n) where
-      pub walk-taken : isTaken m (held n) ≡ true → false ≡ positionsFit t s
-      walk-taken h = no-test _ (λ e. go (held n) refl (sym (ap (λ (m : ℕ). isTaken m (held n)) (w .set)) ∙ h) (places-tells e .1))
-        where
-          go : (y : Held) → held n ≡ y → isTaken (heldBelow s n) y ≡ true → Once s 16 → ⊥
-          go Nothing q h o = false≢true h
-          go (In y) q h o = let v = taken-tells s n y h in omega (arith, v .2, o (v .0) n (v .1) y (omega (arith, v .2)) l (v .3) q (v .4))
+    pub walk-taken : {m : ℕ} → Walked m n → isTaken m (held n) ≡ true → false ≡ positionsFit t s
+    walk-taken w h = no-test _ (λ e. go (held n) refl (sym (ap (λ (m : ℕ). isTaken m (held n)) (w .set)) ∙ h) (places-tells e .1))
+      where
+        go : (y : Held) → held n ≡ y → isTaken (heldBelow s n) y ≡ true → Once s 16 → ⊥
+        go Nothing q h o = false≢true h
+        go (In y) q h o = let v = taken-tells s n y h in omega (arith, v .2, o (v .0) n (v .1) y (omega (arith, v .2)) l (v .3) q (v .4))
 
   pub walk-next : {m m′ n : ℕ} → m′ ≡ withHeld m (held n) → isTaken m (held n) ≡ false → positionFits t s n ≡ true → length (taskAt t n .limits) ≡ 8 → n < 16 → Walked m n
       → Walked m′ (n + 1)

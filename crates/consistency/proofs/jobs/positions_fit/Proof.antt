@@ -1,5 +1,4 @@
 use Prim.Native.Nat.{_-_}
-use native.Mathlib.Omega.{arith}
 use Rattle.consistency.specs.Consistency.{positionFits}
 use Rattle.consistency.proofs.Laws.Places.{Walked, walk-none, walk-unfit, walk-taken, walk-next, walk-end}
 use Rattle.units.proofs.Laws.Tests.{passed, failed, told-true, told-false}
@@ -55,7 +54,7 @@ unfolding positionFits
 loop-again c = walk-next _ _ (c .join .ensures) (search told-false) (search passed) (search) (search) (search)
 
 returns-3 : tie.Need-returns-3 Inv-loop μ-loop
-returns-3 c = walk-end _ _ (c .before .loop .inv) (omega arith)
+returns-3 c = search walk-end
 
 pub positions-fit-spec : {M : Type 1} → statement M
 positions-fit-spec =
