@@ -16,19 +16,9 @@ use Rattle.choice.specs.Choice.{shortestAhead, fastest, inherited}
 
 -- with the two ends found, whichever is the smaller
 module _ (t : Table) (s : State) (run own ahead : ℕ) (mine : own ≡ D t (positionOf run)) (theirs : ahead ≡ shortestAhead t s run) where
-  pub inherited-up : own ≤ ahead → fastest t own ahead ≡ inherited t s run
+  pub inherited-is : (low high : ℕ) → low ≡ min own ahead → high ≡ max own ahead → fastest t low high ≡ inherited t s run
   unfolding inherited
-  inherited-up l =
-      let low : own ≡ min own ahead = omega arith in
-      let high : ahead ≡ max own ahead = omega arith in
-      rw (← mine, ← theirs) (ap₂ (fastest t) low high)
-
-  pub inherited-down : ahead ≤ own → fastest t ahead own ≡ inherited t s run
-  unfolding inherited
-  inherited-down l =
-      let low : ahead ≡ min own ahead = omega arith in
-      let high : own ≡ max own ahead = omega arith in
-      rw (← mine, ← theirs) (ap₂ (fastest t) low high)
+  inherited-is low high a b = rw (← mine, ← theirs) (ap₂ (fastest t) a b)
 
 -- every task whose D lies between a job's ahead and the runner's own counts: L5, and the runner itself
 module _ (t : Table) (s : State) (run : ℕ) where
