@@ -61,7 +61,7 @@ module _ {t : Table} (passed : Passed written t) (now : ℕ) (small : now < 2 ^ 
     state-now = at passed now small calls
 
     -- no refusal has a number past 14: neither 15 nor 16, and no 9
-    pub numbers : (call : Call) → (answered written t state-now call .number ≡ 0) ⊎ ((10 ≤ answered written t state-now call .number) × (answered written t state-now call .number ≤ 14))
+    numbers : (call : Call) → (answered written t state-now call .number ≡ 0) ⊎ ((10 ≤ answered written t state-now call .number) × (answered written t state-now call .number ≤ 14))
     numbers call = go (made passed now small calls call)
       where
         a : Answer
@@ -137,4 +137,5 @@ promise t passed = record {
   byNoRefusal = by-no-refusal passed;
   goesOn = λ now small calls. goes-on (at-good passed now small calls);
   oneJob = one-job passed;
+  onlyByTheCaller = numbers passed;
 }

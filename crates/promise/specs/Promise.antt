@@ -68,6 +68,11 @@ module _ (m : Machine) (t : Table) where
   OneJob = FromAnyTick λ now. (before : List Call) (k : ℕ) → TakenOn now before k → (later : List Call)
       → answered m t (stateAfter m t (stateTaken now before k) later) (release k) .number ≡ 0 → hasEnded t k (since now before k later) ≡ true
 
+  -- 6. Nor does 15 come, "take of a resource that another job holds": a call is taken, or refused with one of 10 to 14. Document 01 does not ask for it.
+  abbrev pub OnlyByTheCaller : Type 0
+  OnlyByTheCaller = FromAnyTick λ now. (calls : List Call) (call : Call)
+      → (reply now calls call .number ≡ 0) ⊎ ((10 ≤ reply now calls call .number) × (reply now calls call .number ≤ 14))
+
   -- All of this.
   pub record Kept : Type 0 where
     pub inTime : InTime
@@ -76,6 +81,7 @@ module _ (m : Machine) (t : Table) where
     pub byNoRefusal : ByNoRefusal
     pub goesOn : GoesOn
     pub oneJob : OneJob
+    pub onlyByTheCaller : OnlyByTheCaller
 
 -- The promise: it holds of every table that passes. Nothing is assumed of the calls.
 abbrev pub Promise : Machine → Type 0
