@@ -1,4 +1,4 @@
-use Rattle.machine.proofs.Laws.Told.{told}
+use Rattle.units.proofs.Laws.Tests.{told}
 use Rattle.machine.proofs.Laws.Calls.{choose-9, choose-11, choose-makes}
 use borrow.Author.Needs.{needs}
 use Rattle.machine.proofs.choose.Statement.{statement}

@@ -6,7 +6,7 @@ use Rattle.units.proofs.Laws.Tests.{passed}
 use Rattle.table.specs.declared.Table.{Table}
 use Rattle.state.specs.declared.State.{State}
 use Rattle.consistency.specs.Consistency.{consistent}
-use Rattle.machine.proofs.Laws.Told.{told}
+use Rattle.units.proofs.Laws.Tests.{told}
 use Rattle.machine.proofs.Laws.Calls.{few, small-fits, number-of, number-0, release-9, release-11, release-10, release-12, release-taken}
 use borrow.Author.Needs.{needs}
 use Rattle.machine.proofs.release_number.Statement.{statement}

@@ -1,4 +1,4 @@
-use Rattle.machine.proofs.Laws.Told.{told}
+use Rattle.units.proofs.Laws.Tests.{told}
 use Rattle.machine.proofs.Laws.Calls.{report-9, report-11, report-runs}
 use borrow.Author.Needs.{needs}
 use Rattle.machine.proofs.report.Statement.{statement}

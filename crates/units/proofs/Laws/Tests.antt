@@ -1,5 +1,5 @@
 -- What a test that a function made says of its rule. Assumes nothing.
-use mathlib.Core.Path.{_≡_, refl, sym, ap, _∙_}
+use mathlib.Core.Path.{_≡_, refl, sym, ap, _∙_, _∙⁻¹_}
 use mathlib.Core.Bool.{Bool, true, false, not, _&&_, _||_, cond, false≢true}
 use borrow.Author.Tests.{not-true, not-false, lt-ltb, le-ltb, le-leb, lt-leb, eq-eqb, ne-eqb, ltb-true, leb-true, eqb-true}
 
@@ -101,3 +101,10 @@ pub ruleset tests = (
 )
 
 pub ruleset parts = (and-left, and-right, ltb-true, leb-true, eqb-true, not-true)
+
+-- a test by a call: r is what it answered
+pub tested : {r b d : Bool} → r ≡ b → r ≡ d → b ≡ d
+tested e f = sym e ∙ f
+
+-- `search (told, LAW)` proves that an answer is the one that LAW gives, by what the calls answered and what the tests said.
+pub ruleset told = (_∙⁻¹_, tested, passed, failed)

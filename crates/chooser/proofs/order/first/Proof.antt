@@ -5,7 +5,7 @@ use native.Mathlib.Omega.{arith}
 use Rattle.units.specs.Folds.{over, smallest}
 use Rattle.state.specs.State.{jobAt}
 use Rattle.state.specs.Order.{firstInOrder, placeAt, noPlace, isStarted, isPending}
-use Rattle.chooser.proofs.Laws.Loops.{smallest-yet}
+use Rattle.units.proofs.Laws.Loops.{smallest-yet}
 use borrow.Author.Needs.{needs}
 use Rattle.chooser.proofs.order.first.Statement.{statement}
 use Rattle.chooser.proofs.order.first.Tie as tie

@@ -6,7 +6,7 @@ use lib.Dec.{ltb, leb}
 use Rattle.units.specs.Folds.{over, largest}
 use Rattle.table.specs.Table.{D, S}
 use Rattle.choice.specs.Choice.{fastest}
-use Rattle.chooser.proofs.Laws.Loops.{largest-yet}
+use Rattle.units.proofs.Laws.Loops.{largest-yet}
 use borrow.Author.Needs.{needs}
 use Rattle.chooser.proofs.rules.fastest.Statement.{statement}
 use Rattle.chooser.proofs.rules.fastest.Tie as tie

@@ -12,7 +12,7 @@ use Rattle.table.specs.Table.{D, ceilings}
 use Rattle.state.specs.declared.State.{State}
 use Rattle.state.specs.State.{jobAt}
 use Rattle.choice.specs.Choice.{bars, blocked}
-use Rattle.chooser.proofs.Laws.Loops.{none-yet}
+use Rattle.units.proofs.Laws.Loops.{none-yet}
 use borrow.Author.Needs.{needs}
 use Rattle.chooser.proofs.runner.blocked.Statement.{statement}
 use Rattle.chooser.proofs.runner.blocked.Tie as tie

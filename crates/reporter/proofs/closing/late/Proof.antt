@@ -8,7 +8,7 @@ use Rattle.units.specs.Folds.{over, some}
 use Rattle.units.proofs.Laws.Folds.{some-holds}
 use Rattle.state.specs.declared.State.{State}
 use Rattle.state.specs.State.{jobAt}
-use Rattle.chooser.proofs.Laws.Loops.{none-yet}
+use Rattle.units.proofs.Laws.Loops.{none-yet}
 use Rattle.report.specs.Report.{late}
 use borrow.Author.Needs.{needs}
 use Rattle.reporter.proofs.closing.late.Statement.{statement}

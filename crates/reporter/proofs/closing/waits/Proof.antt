@@ -8,7 +8,7 @@ use Rattle.units.proofs.Laws.Folds.{long}
 use Rattle.state.specs.declared.Job.{Job}
 use Rattle.state.specs.State.{noJob}
 use Rattle.report.specs.Report.{waited}
-use Rattle.reporter.proofs.Laws.Lists.{part, part-more, part-all}
+use Rattle.units.proofs.Laws.Lists.{part, part-more, part-all}
 use borrow.Author.Needs.{needs}
 use Rattle.reporter.proofs.closing.waits.Statement.{statement}
 use Rattle.reporter.proofs.closing.waits.Tie as tie
