@@ -52,12 +52,12 @@ found-taken m e h = rw e h
 
 -- ---- the mark
 
-pub found-mark : (count now : ℕ) {k : Mark} {m : Place} {r : Bool} → k ≡ At m → r ≡ (ltb (m .position) count && leb (distance now (m .deadline .0)) 65535)
-    → r ≡ markFits count now k
-found-mark count now e h = rw e h
+module _ (count now : ℕ) {k : Mark} {m : Place} (e : k ≡ At m) {r : Bool} where
+  pub found-mark : r ≡ (ltb (m .position) count && leb (distance now (m .deadline .0)) 65535) → r ≡ markFits count now k
+  found-mark h = rw e h
 
-pub found-distance : {d e : ℕ} → d ≡ e → leb d 65535 ≡ leb e 65535
-found-distance e = rw e
+  pub found-distance : {d : ℕ} → d ≡ distance now (m .deadline .0) → r ≡ (ltb (m .position) count && leb d 65535) → r ≡ markFits count now k
+  found-distance f h = found-mark (rw (← f) h)
 
 -- ---- the middle of a tick
 

@@ -20,10 +20,10 @@ returns : tie.Need-returns
 returns c = search needs
 
 returns-2 : tie.Need-returns-2
-returns-2 c = search (found-mark, found-distance, tests)
+returns-2 c = search (found-distance, tests)
 
 returns-3 : tie.Need-returns-3
-returns-3 c = search (found-mark, found-distance, tests)
+returns-3 c = search (found-mark, tests)
 
 pub mark-fits-spec : {M : Type 1} → statement M
 mark-fits-spec =
