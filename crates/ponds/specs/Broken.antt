@@ -5,6 +5,7 @@ use lib.{ListN.getD, ListN.set, Dec.ltb, Dec.eqb}
 use Rattle.units.specs.{Amounts.ticks, Amounts.steps, Amounts.given, Folds.some, Folds.sum}
 use Rattle.table.specs.{declared.Task.Task, declared.Table.Table, Table.taskAt, Table.D, Table.C, Table.I, Table.S, Table.ceilings}
 use Rattle.verdict.specs.Verdict.{answer}
+use Rattle.verdict.specs.declared.Verdict.the-variants.{Passed}
 use Rattle.admission.specs.Admission.{ticksInRound, independentSum, verdict}
 use Rattle.state.specs.{declared.Job.Job, declared.State.State, declared.Held.Held, declared.Held.the-variants.Nothing, declared.Held.the-variants.In, declared.Report.Report, declared.Report.the-variants.Take, State.jobAt, Order.positionOf, Order.isStarted, Order.firstInOrder, Order.lastHolder}
 use Rattle.choice.specs.{Choice.top, Choice.runner, Choice.oldMark, Choice.markAt, Choice.synchronized, Choice.rule1, Choice.noHolderBehind, Choice.rules, Choice.turn}
@@ -55,16 +56,16 @@ abbrev pub strictly : Machine
 strictly = byRules λ t s. let p = positionOf (top s) in
     rules t s (cond (not (jobAt s p .started) && some (λ k. below t (D t p) (jobAt s k .held) && (jobAt s k .pending && not (eqb k p))) 16) (firstInOrder isStarted s) (top s))
 
--- 01's own choice and report, with no test of the table
+-- 01's own choice and report, of every table
 abbrev pub untested : Machine
-untested = byTurn turn
+untested = let m = byTurn turn in record { verdict = λ t. Passed; fresh = m .fresh; release = m .release; choose = m .choose; report = m .report }
 
 -- 01's choice, and a report that makes something else of the runner's job
 abbrev pub byEnding : (Task → Report → ℕ → Job → Job) → Machine
 byEnding ending = by (record {
   taken = releasedAt;
   turn = turn;
-  said = λ t s u said.
+  reported = λ t s u said.
       let p = positionOf (runner t s) in Report.finished s (set (s .jobs) p (ending (taskAt t p) said (u .speed) (jobAt s p))) u 0;
 })
 
@@ -77,21 +78,6 @@ pastBudget = byEnding λ task said v j. let w = Report.worked task v j in
 abbrev pub pastLimit : Machine
 pastLimit = byEnding λ task said v j. let w = Report.worked task v j in
     cond (Report.atLimit task (w .held)) w (Report.settled task said w .job)
-
--- every job ended by the first report, as by "one that ends jobs at the first tick and later only advances the count": then no job is there, and each tick closes idle
-abbrev pub withoutJobs : State → State
-withoutJobs s = record { tick = s .tick; jobs = map Report.ended (s .jobs); mark = s .mark; half = s .half; runner = s .runner }
-
-abbrev pub endingAtOnce : Machine
-endingAtOnce = record {
-  verdict = written .verdict;
-  fresh = written .fresh;
-  release = written .release;
-  choose = written .choose;
-  report = λ t s said.
-      let a = written .report t s said in
-      cond (eqb (a .number) 0) (record { number = 0; state = withoutJobs (a .state); runner = a .runner; mode = a .mode; speed = a .speed; ending = a .ending }) a;
-}
 
 -- ---- the histories
 
@@ -152,7 +138,3 @@ pub record Broken : Type 0 where
   -- the budget, and the section's limit, not enforced
   pub budget : (ends pastBudget shortBudget (release 0 ∷ carry 1) ≡ (16, 0)) × (ends written shortBudget (release 0 ∷ carry 1) ≡ (0, 0))
   pub limit : (ends pastLimit shortSection (takesThen 1 2) ≡ (16, 0)) × (ends written shortSection (takesThen 1 2) ≡ (0, 0))
-  -- a job of 01's listing is taken on, and after one tick is neither there nor ended, by what was given and said
-  pub taken : TakenOn endingAtOnce two 0 [] 1
-  pub lost : jobAt (stateAfter endingAtOnce two (stateTaken endingAtOnce two 0 [] 1) (calls (carry 1))) 1 .pending ≡ false
-  pub inVain : hasEnded two 1 (since endingAtOnce two 0 [] 1 (calls (carry 1))) ≡ false

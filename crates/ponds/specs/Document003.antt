@@ -46,7 +46,7 @@ turn t s = cond (ltb (top s) noPlace) (rules t s (runner t s)) idle
 
 -- the machine by it
 abbrev pub document003 : Machine
-document003 = by (record { taken = λ t s p. arrived t (releasedAt t s p) p; turn = turn; said = λ t s u said. reportAs t s u (u .runner) said })
+document003 = by (record { taken = λ t s p. arrived t (releasedAt t s p) p; turn = turn; reported = λ t s u said. reportAs t s u (u .runner) said })
 
 -- how many ticks were below full speed
 unfoldable pub slow : Table → List Line → ℕ

@@ -1,7 +1,6 @@
 -- The first tick of 01's listing, call by call on the written rules: what is answered, and what has changed.
 use Prim.Native.Nat.{ℕ}
 use mathlib.Core.{Path._≡_, Bool.true, Bool.false}
-use Rattle.units.specs.Amounts.{given}
 use Rattle.verdict.specs.Verdict.{answer}
 use Rattle.state.specs.{declared.State.State, declared.Answer.Answer, declared.Report.the-variants.CarryOn, State.jobAt}
 use Rattle.state.specs.declared.Runner.the-variants.{Job}
@@ -34,10 +33,10 @@ pub record FirstTick : Type 0 where
   pub notStarted : jobAt (released 1 .state) 1 .started ≡ false
   pub started : jobAt (chosen 1 .state) 1 .started ≡ true
   pub runsOther : chosen 0 .runner ≡ Job 0
-  -- it carries on: the tick is closed, one step was given and is used, and the job is still there
+  -- it carries on: the tick is closed, one step is used, and the job is still there
   pub closes : closed .number ≡ 0
   pub ran : closed .runner ≡ Job 1
-  pub gave : given (closed .speed) ≡ 1
+  pub slow : closed .speed ≡ 1
   pub goesOn : jobAt (closed .state) 1 .pending ≡ true
   pub unused : jobAt (chosen 1 .state) 1 .used .0 ≡ 0
   pub used : jobAt (closed .state) 1 .used .0 ≡ 1

@@ -5,6 +5,7 @@ use mathlib.Core.List.{List, [], _∷_, _++_}
 use Rattle.units.specs.Clock as Clock
 use Rattle.units.specs.Folds.{listed}
 use Rattle.verdict.specs.Verdict.{answer}
+use Rattle.table.specs.Table.{D, C, S}
 use Rattle.admission.specs.Admission.{ticksInRound, B, independentSum, synchronizationSum, verdict}
 use Rattle.state.specs.declared.Report.the-variants.{CarryOn, Take, Give, Done}
 use Rattle.state.specs.declared.Runner.the-variants.{Nobody, Job}
@@ -38,8 +39,8 @@ ponds =
     ∷ pond (independentSum (p1 240 3 5)) 288
     ∷ pond (answer (verdict (p1 240 3 5))) (7, 0)
     -- P3: "P1 with S of position 0 at 4: 15 × 12 + 10 × 12 = 300, number 8, position 0."
-    ∷ pond (ticksInRound (B p3 0) 4 240 20) (15 * 12)
-    ∷ pond (ticksInRound 40 4 240 20) (10 * 12)
+    ∷ pond (ticksInRound (B p3 0) (S p3 0) (p3 .round) (D p3 0)) (15 * 12)
+    ∷ pond (ticksInRound (C p3 0) (S p3 0) (p3 .round) (D p3 0)) (10 * 12)
     ∷ pond (synchronizationSum p3 0) 300
     ∷ pond (answer (verdict p3)) (8, 0)
     -- P4: "P1 with G 241: number 5, position 0."

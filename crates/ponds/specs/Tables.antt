@@ -24,13 +24,15 @@ task d c i s r0 r1 = record {
 abbrev pub table : ℕ → ℕ → ℕ → List Task → Table
 table f g n tasks = record { full = f; round = g; count = n; tasks = tasks }
 
--- P1 with G, and I and S of position 0, to be chosen
+-- "P1: document 003's three tasks, times × 4. F 5, G 240, T = D; (D, C, I, S): (20, 40, 4, 5), (60, 60, 4, 4), (80, 80, 4, 4). Limits, resource 0: 10, 60, 0; resource 1: 0, 10, 20.",
+-- with G, and I and S of position 0, to be chosen
 abbrev pub p1 : ℕ → ℕ → ℕ → Table
 p1 g i s = table 5 g 3 (task 20 40 i s 10 0 ∷ task 60 60 4 4 60 10 ∷ task 80 80 4 4 0 20 ∷ [])
 
 abbrev pub p3 : Table
 p3 = p1 240 4 4
 
+-- "P5: F 6, G 280, T = D; (D, C, I, S): (10, 6, 1, 6), (10, 18, 6, 6), (14, 6, 6, 6), (280, 48, 6, 6); resource 0 limits 0, 0, 6, 42."
 abbrev pub p5 : Table
 p5 = table 6 280 4 (task 10 6 1 6 0 0 ∷ task 10 18 6 6 0 0 ∷ task 14 6 6 6 6 0 ∷ task 280 48 6 6 42 0 ∷ [])
 

@@ -14,7 +14,7 @@ use Rattle.promise.specs.History.{Machine}
 pub record Variant : Type 0 where
   pub taken : Table → State → ℕ → State
   pub turn : Table → State → Turn
-  pub said : Table → State → Turn → Report → Answer
+  pub reported : Table → State → Turn → Report → Answer
 
 abbrev pub by : Variant → Machine
 by w = record {
@@ -22,12 +22,12 @@ by w = record {
   fresh = fresh;
   release = λ t s p. cond (ltb 0 (jobAt s p .wait .0)) (bare 12 s) (bare 0 (w .taken t s p));
   choose = λ t s. let u = w .turn t s in chosen (record { state = inMidTick s u; turn = u });
-  report = λ t s said. w .said t s (w .turn t s) said;
+  report = λ t s said. w .reported t s (w .turn t s) said;
 }
 
 -- another turn, and 01's release and report
 abbrev pub byTurn : (Table → State → Turn) → Machine
-byTurn turn = by (record { taken = releasedAt; turn = turn; said = λ t s u said. reportAs t s u (u .runner) said })
+byTurn turn = by (record { taken = releasedAt; turn = turn; reported = λ t s u said. reportAs t s u (u .runner) said })
 
 -- the rules in another form, for a runner at a place, and 01's idling
 abbrev pub byRules : (Table → State → Turn) → Machine

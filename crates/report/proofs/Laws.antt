@@ -2,3 +2,4 @@ pub mod Jobs
 pub mod Answers
 pub mod Sections
 pub mod Alike
+pub mod Steps

@@ -24,6 +24,8 @@ use Rattle.choice.specs.declared.Choice.{Choice}
 use Rattle.choice.specs.Choice.{choice}
 use Rattle.report.specs.Report as AtReport
 use Rattle.report.proofs.Laws.Answers as ReportAnswers
+use Rattle.report.proofs.Laws.Steps as ReportSteps
+use Rattle.report.proofs.Laws.Steps.{Given, bare-gives}
 use Rattle.consistency.specs.Consistency.{consistent}
 use Rattle.consistency.proofs.Laws.Facts.{consistent-tells}
 use Rattle.machine.specs.Machine.{midTick, released, releasedAt, release, chosen, choose, report}
@@ -166,3 +168,13 @@ module _ (t : Table) (s : State) where
       go false b h = refl
       go true false h = refl
       go true true h = ReportAnswers.report-refused t s said h
+
+  -- no job is given more steps than the speed of its tick gives
+  pub report-gives : (said : Report) (k : ℕ) → Given s k (report t s said)
+  unfolding report
+  report-gives said k = go (consistent t s) (midTick (s .half))
+    where
+      go : (a b : Bool) → Given s k (cond (not a) (bare 9 s) (cond (not b) (bare 11 s) (AtReport.report t s said)))
+      go false b = bare-gives s k 9
+      go true false = bare-gives s k 11
+      go true true = ReportSteps.report-gives s k t said
