@@ -1,4 +1,5 @@
 // What is written: words and numbers, one space apart.
+use crate::word;
 use libc::STDOUT_FILENO;
 use state::Half;
 use state::Held;
@@ -9,31 +10,14 @@ use state::Runner;
 use state::State;
 use verdict::Verdict;
 
-pub(crate) fn write(text: &[u8]) {
-    io::write_all(STDOUT_FILENO, text);
-}
-
-fn put(byte: u8) {
+pub(crate) fn put(byte: u8) {
     let text = [byte; 1];
-    write(&text);
-}
-
-fn end() {
-    put(b'\n');
-}
-
-pub(crate) fn note(text: &[u8]) {
-    write(text);
-    end();
-}
-
-fn bare(value: u64) {
-    io::print_decimal(STDOUT_FILENO, value);
+    io::write_all(STDOUT_FILENO, &text);
 }
 
 fn number(value: u64) {
     put(b' ');
-    bare(value);
+    io::print_decimal(STDOUT_FILENO, value);
 }
 
 fn sign(byte: u8) {
@@ -41,11 +25,23 @@ fn sign(byte: u8) {
     put(byte);
 }
 
+// The letters of a word, of which the first is the highest byte that is not 0.
+fn word(letters: u64) {
+    let mut rest = letters;
+    for _letter in 0..8usize {
+        let letter = (rest / 72057594037927936) as u8;
+        if letter != 0 {
+            put(letter);
+        }
+        rest = rest % 72057594037927936 * 256;
+    }
+}
+
 // The tick and what is called in it.
-fn call(tick: u32, name: &[u8]) {
-    bare(tick as u64);
+fn call(tick: u32, name: u64) {
+    io::print_decimal(STDOUT_FILENO, tick as u64);
     put(b' ');
-    write(name);
+    word(name);
 }
 
 fn runner(runner: Runner) {
@@ -64,20 +60,13 @@ fn choice(job: Runner, mode: Mode, speed: u8) {
     number(speed as u64);
 }
 
-fn half(half: Half) {
-    match half {
-        Half::First => number(1),
-        Half::Second => number(2),
-    }
-}
-
 fn mark(mark: Mark) {
     match mark {
         Mark::Absent => sign(b'-'),
         Mark::At(place) => {
             number(place.deadline.0 as u64);
             put(b'@');
-            bare(place.position as u64);
+            io::print_decimal(STDOUT_FILENO, place.position as u64);
         }
     }
 }
@@ -95,37 +84,14 @@ fn held(held: Held) {
     }
 }
 
-fn truth(is_so: bool) {
-    if is_so {
-        number(1);
-    } else {
-        number(0);
-    }
-}
-
-fn is_empty(job: Job) -> bool {
-    let held = job.held;
-    if job.pending {
-        return false;
-    }
-    if job.started {
-        return false;
-    }
-    if held.any() {
-        return false;
-    }
-    job.deadline.0 == 0 && (job.used.0 == 0 && job.wait.0 == 0)
-}
-
 // A job, as it is set by hand.
 fn job(position: usize, job: Job) {
-    if is_empty(job) {
-        return;
-    }
-    write(b", job");
+    put(b',');
+    put(b' ');
+    word(word::JOB);
     number(position as u64);
-    truth(job.pending);
-    truth(job.started);
+    number(job.pending as u64);
+    number(job.started as u64);
     number(job.deadline.0 as u64);
     number(job.used.0 as u64);
     let section = job.held;
@@ -133,87 +99,103 @@ fn job(position: usize, job: Job) {
     number(job.wait.0 as u64);
 }
 
-fn jobs(jobs: [Job; 16]) {
-    for k in 0..16 {
-        job(k, jobs[k]);
-    }
+fn is_empty(job: Job) -> bool {
+    let held = job.held;
+    let flags = job.pending as u64 | job.started as u64 | held.any() as u64;
+    flags | job.deadline.0 as u64 | job.used.0 as u64 | job.wait.0 as u64 == 0
 }
 
-fn head(tick: u32, next: Half, job: Runner, place: Mark) {
-    write(b"state");
-    number(tick as u64);
-    half(next);
-    runner(job);
-    mark(place);
+fn jobs(jobs: [Job; 16]) {
+    for k in 0..16 {
+        let next = jobs[k];
+        if !is_empty(next) {
+            job(k, next);
+        }
+    }
 }
 
 // The whole state, but for the jobs that are all 0.
 pub(crate) fn state(state: State) {
-    let half = state.half;
-    let runner = state.runner;
-    let mark = state.mark;
+    let next = state.half;
+    let job = state.runner;
+    let place = state.mark;
     let all = state.jobs;
-    head(state.tick.0, half, runner, mark);
+    word(word::STATE);
+    number(state.tick.0 as u64);
+    match next {
+        Half::First => number(1),
+        Half::Second => number(2),
+    }
+    runner(job);
+    mark(place);
     jobs(all);
-    end();
+    put(b'\n');
 }
 
-pub(crate) fn fresh(verdict: Verdict) {
-    write(b"fresh");
-    number(verdict.number() as u64);
-    number(verdict.position() as u64);
-    end();
+pub(crate) fn fresh(refusal: u8, position: usize) {
+    word(word::FRESH);
+    number(refusal as u64);
+    number(position as u64);
+    put(b'\n');
 }
 
-pub(crate) fn release(tick: u32, position: u64, refusal: u8) {
-    call(tick, b"release");
+fn release(tick: u32, position: u64, refusal: u8) {
+    call(tick, word::RELEASE);
     number(position);
     number(refusal as u64);
-    end();
 }
 
-pub(crate) fn choose(tick: u32, refusal: u8, job: Runner, mode: Mode, speed: u8) {
-    call(tick, b"choose");
+fn choose(tick: u32, name: u64, refusal: u8, job: Runner, mode: Mode, speed: u8) {
+    call(tick, name);
     number(refusal as u64);
     choice(job, mode, speed);
-    end();
 }
 
-pub(crate) fn report(tick: u32, refusal: u8, job: Runner, mode: Mode, speed: u8, ending: u8) {
-    call(tick, b"report");
-    number(refusal as u64);
-    choice(job, mode, speed);
-    number(ending as u64);
-    end();
+// Both halves of a tick.
+fn ticked(tick: u32, refusal: u8, job: Runner, mode: Mode, speed: u8, ending: u8) {
+    match refusal {
+        0 => {
+            call(tick, word::RUN);
+            choice(job, mode, speed);
+            number(ending as u64);
+        }
+        _ => {
+            call(tick, word::REFUSED);
+            number(refusal as u64);
+        }
+    }
 }
 
-fn refused(tick: u32, refusal: u8) {
-    call(tick, b"refused");
-    number(refusal as u64);
-    end();
+fn no_command() {
+    word(word::NO);
+    put(b' ');
+    word(word::COMMAND);
 }
 
-// Both halves of a tick; answers whether neither was refused. Where the first was, the second is not looked at.
-pub(crate) fn tick(
+// What the machine answers to a command.
+pub(crate) fn answer(
+    name: u64,
     tick: u32,
-    first: u8,
-    second: u8,
+    position: u64,
+    refusal: u8,
     job: Runner,
     mode: Mode,
     speed: u8,
     ending: u8,
-) -> bool {
-    if first != 0 {
-        refused(tick, first);
-        return false;
+) {
+    match name {
+        word::RELEASE => release(tick, position, refusal),
+        word::CHOOSE => choose(tick, name, refusal, job, mode, speed),
+        word::REPORT => {
+            choose(tick, name, refusal, job, mode, speed);
+            number(ending as u64);
+        }
+        word::TICK => ticked(tick, refusal, job, mode, speed, ending),
+        word::NOTE => {}
+        word::WRONG => no_command(),
+        _ => {
+            return;
+        }
     }
-    if second != 0 {
-        refused(tick, second);
-        return false;
-    }
-    call(tick, b"run");
-    choice(job, mode, speed);
-    number(ending as u64);
-    end();
-    true
+    put(b'\n');
 }

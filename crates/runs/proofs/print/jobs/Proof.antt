@@ -12,11 +12,14 @@ abbrev μ-loop : tie.MeasureT-loop
 loop-holds : tie.Need-loop-holds Inv-loop μ-loop
 loop-holds c = search needs
 
-mul-job : tie.Need-mul-job Inv-loop μ-loop
-mul-job c = search needs
+mul-next : tie.Need-mul-next Inv-loop μ-loop
+mul-next c = search needs
 
-array-copy-out-job : tie.Need-array-copy-out-job Inv-loop μ-loop
-array-copy-out-job c = search needs
+array-copy-out-next : tie.Need-array-copy-out-next Inv-loop μ-loop
+array-copy-out-next c = search needs
+
+is-empty-requires : tie.Need-is-empty-requires Inv-loop μ-loop
+is-empty-requires c κs = search needs
 
 job-requires : tie.Need-job-requires Inv-loop μ-loop
 job-requires c κs = search needs
@@ -40,8 +43,9 @@ jobs-spec =
     Inv-loop
     μ-loop
     loop-holds
-    mul-job
-    array-copy-out-job
+    mul-next
+    array-copy-out-next
+    is-empty-requires
     job-requires
     add-k
     loop-less
