@@ -6,7 +6,7 @@ use Rattle.table.specs.declared.Table.{Table}
 use Rattle.state.specs.{declared.State.State, declared.Report.Report}
 use Rattle.admission.proofs as Admission
 use Rattle.state.proofs as State
-use Rattle.machine.proofs as Machine
+use Rattle.machine.proofs as Calls
 use Rattle.promise.specs.History.{Machine, written, Call, answered}
 use Rattle.promise.specs.Promise.{Promise}
 
@@ -14,9 +14,9 @@ use Rattle.promise.specs.Promise.{Promise}
 pub record Contracts (m : Machine) : Type 0 where
   pub verdict : (t : Table) → Admission.verdict_of.Reads.Learnt tt (t, tt) (m .verdict t) (t, tt)
   pub fresh : (t : Table) (now : Tick) → State.State.fresh.Reads.Learnt tt (t, (now, tt)) (m .fresh t now) (t, (now, tt))
-  pub release : (t : Table) (s : State) (p : ℕ) → Machine.release.Reads.Learnt tt (t, (s, (p, tt))) (m .release t s p) (t, (s, (p, tt)))
-  pub choose : (t : Table) (s : State) → Machine.choose.Reads.Learnt tt (t, (s, tt)) (m .choose t s) (t, (s, tt))
-  pub report : (t : Table) (s : State) (said : Report) → Machine.report.Reads.Learnt tt (t, (s, (said, tt))) (m .report t s said) (t, (s, (said, tt)))
+  pub release : (t : Table) (s : State) (p : ℕ) → Calls.release.Reads.Learnt tt (t, (s, (p, tt))) (m .release t s p) (t, (s, (p, tt)))
+  pub choose : (t : Table) (s : State) → Calls.choose.Reads.Learnt tt (t, (s, tt)) (m .choose t s) (t, (s, tt))
+  pub report : (t : Table) (s : State) (said : Report) → Calls.report.Reads.Learnt tt (t, (s, (said, tt))) (m .report t s said) (t, (s, (said, tt)))
 
 -- "demand 2, by the table of numbers"
 pub record Numbers (m : Machine) : Type 0 where

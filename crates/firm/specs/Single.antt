@@ -21,6 +21,7 @@ abbrev pub Promised : Ended → Type 1
 Promised T = (κs : Lfts (T .signature .lifetimes)) → Args (T .signature) κs → Res (T .signature) κs → AtExit T κs → Type 0
 
 -- Two results that it allows of the same arguments are one, and so is what it leaves in the parameters: v and w are what is left behind the references, as in a lent slice.
+-- That there is one is what the code is proved to give. The arguments of a lent slice include where it stands; no contract reads that.
 abbrev pub Single : (T : Ended) → Promised T → Type 0
 Single T P =
     (κs : Lfts (T .signature .lifetimes)) (a : Args (T .signature) κs) (r s : Res (T .signature) κs) (v w : Lasts T κs a)
@@ -47,7 +48,7 @@ pub record Singleness : Type 0 where
   pub any : Single State.Held.any.ended State.Held.any.Reads.Learnt
   pub join : Single State.Held.join.ended State.Held.join.Reads.Learnt
   pub turnOf : Single Chooser.turn_of.ended Chooser.turn_of.Reads.Learnt
-  pub choice : Single Chooser.choose.ended Chooser.choose.Reads.Learnt
+  pub firstHalf : Single Chooser.choose.ended Chooser.choose.Reads.Learnt
   pub secondHalf : Single Reporter.report.ended Reporter.report.Reads.Learnt
   pub consistent : Single Consistency.consistent.ended Consistency.consistent.Reads.Learnt
   pub release : Single Machine.release.ended Machine.release.Reads.Learnt

@@ -61,8 +61,8 @@ module _ {t : Table} (passed : Passed written t) (now : ℕ) (small : now < 2 ^ 
     state-now = at passed now small calls
 
     -- no refusal has a number past 14: neither 15 nor 16, and no 9
-    numbers : (call : Call) → (answered written t state-now call .number ≡ 0) ⊎ ((10 ≤ answered written t state-now call .number) × (answered written t state-now call .number ≤ 14))
-    numbers call = go (made passed now small calls call)
+    only-by-the-caller : (call : Call) → (answered written t state-now call .number ≡ 0) ⊎ ((10 ≤ answered written t state-now call .number) × (answered written t state-now call .number ≤ 14))
+    only-by-the-caller call = go (made passed now small calls call)
       where
         a : Answer
         a = answered written t state-now call
@@ -78,7 +78,7 @@ module _ {t : Table} (passed : Passed written t) (now : ℕ) (small : now < 2 ^ 
         go (runs p said c h r l f e) = inl (is e)
 
     by-no-refusal : (call : Call) → (answered written t state-now call .number ≡ 9 → ⊥) × (answered written t state-now call .number ≡ 16 → ⊥)
-    by-no-refusal call = go (answered written t state-now call .number) (numbers call)
+    by-no-refusal call = go (answered written t state-now call .number) (only-by-the-caller call)
       where
         go : (n : ℕ) → (n ≡ 0) ⊎ ((10 ≤ n) × (n ≤ 14)) → (n ≡ 9 → ⊥) × (n ≡ 16 → ⊥)
         go n (inl e) = (λ z. omega arith, λ z. omega arith)
@@ -137,5 +137,5 @@ promise t passed = record {
   byNoRefusal = by-no-refusal passed;
   goesOn = λ now small calls. goes-on (at-good passed now small calls);
   oneJob = one-job passed;
-  onlyByTheCaller = numbers passed;
+  onlyByTheCaller = only-by-the-caller passed;
 }
