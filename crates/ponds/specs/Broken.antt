@@ -1,20 +1,19 @@
 -- Wrong rules, and for each a table with a short history that breaks the promise there. Under 01's rules no call of it is refused; one table, that of the test without B, they do not pass.
 use Prim.Native.Nat.{ℕ, _+_, max, _≤_}
-use mathlib.Core.{Path._≡_, Bool.Bool, Bool.false, Bool.not, Bool._&&_, Bool.cond, List.List, List.[], List._∷_, List._++_, List.map}
+use mathlib.Core.{Path._≡_, Bool.Bool, Bool.false, Bool.not, Bool._&&_, Bool.cond, List.List, List.[], List._∷_, List._++_}
 use lib.{ListN.getD, ListN.set, Dec.ltb, Dec.eqb}
 use Rattle.units.specs.{Amounts.ticks, Amounts.steps, Amounts.given, Folds.some, Folds.sum}
 use Rattle.table.specs.{declared.Task.Task, declared.Table.Table, Table.taskAt, Table.D, Table.C, Table.I, Table.S, Table.ceilings}
 use Rattle.verdict.specs.Verdict.{answer}
 use Rattle.verdict.specs.declared.Verdict.the-variants.{Passed}
 use Rattle.admission.specs.Admission.{ticksInRound, independentSum, verdict}
-use Rattle.state.specs.{declared.Job.Job, declared.State.State, declared.Held.Held, declared.Held.the-variants.Nothing, declared.Held.the-variants.In, declared.Report.Report, declared.Report.the-variants.Take, State.jobAt, Order.positionOf, Order.isStarted, Order.firstInOrder, Order.lastHolder}
+use Rattle.state.specs.{declared.Job.Job, declared.Held.Held, declared.Held.the-variants.Nothing, declared.Held.the-variants.In, declared.Report.Report, declared.Report.the-variants.Take, State.jobAt, Order.positionOf, Order.isStarted, Order.firstInOrder, Order.lastHolder}
 use Rattle.choice.specs.{Choice.top, Choice.runner, Choice.oldMark, Choice.markAt, Choice.synchronized, Choice.rule1, Choice.noHolderBehind, Choice.rules, Choice.turn}
 use Rattle.report.specs.Report as Report
 use Rattle.consistency.specs.Consistency.{markFits}
 use Rattle.machine.specs.Machine.{releasedAt}
-use Rattle.promise.specs.History.{Machine, written, Line, lines, stateAfter, start, hasEnded}
-use Rattle.promise.specs.Promise.{TakenOn, stateTaken, since}
-use Rattle.ponds.specs.Tables.{task, table, two}
+use Rattle.promise.specs.History.{Machine, written, Line, lines, stateAfter, start}
+use Rattle.ponds.specs.Tables.{task, table}
 use Rattle.records.specs.declared.Event.{Event}
 use Rattle.ponds.specs.Runs.{release, tick, carry}
 use Rattle.ponds.specs.Histories.{calls, refused}

@@ -8,7 +8,6 @@ use state::Mark;
 use state::Mode;
 use state::Runner;
 use state::State;
-use verdict::Verdict;
 
 pub(crate) fn put(byte: u8) {
     let text = [byte; 1];
