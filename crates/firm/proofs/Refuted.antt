@@ -1,4 +1,4 @@
--- The refuted machines: each answers otherwise than the rules in the first tick of 01's listing. Assumes nothing.
+-- The refuted machines: each answers otherwise than the rules in the first tick of 01's listing; only that no report gives a job too many steps is a law. Assumes nothing.
 use Prim.Native.Nat.{ℕ, _<_}
 use mathlib.Core.Path.{_≡_, refl, sym, ap, _∙_}
 use mathlib.Core.Bool.{Bool, true, false, false≢true}
