@@ -85,7 +85,7 @@ module _ (m : Machine) (ends : EndsAtOnce m) (n : Numbers m) (c : Choices m) (bu
   never-ended =
       ap (λ (x : ℕ). ended-by x (answer-report .runner) (answer-report .speed) answer-report answer-choose) closed-0
       ∙ ap (λ (x : Runner). ended-by 0 x (answer-report .speed) answer-report answer-choose) (by-rule (λ a. a .runner) (c .runner two (answer-choose .state) (report CarryOn)) (first-tick .ran))
-      ∙ ap (λ (x : ℕ). ended-by 0 (Job 1) x answer-report answer-choose) (by-rule (λ a. a .speed) (c .speed two (answer-choose .state) (report CarryOn)) (first-tick .slow))
+      ∙ ap (λ (x : ℕ). ended-by 0 (Job 1) x answer-report answer-choose) (by-rule (λ a. a .speed) (c .speed two (answer-choose .state) (report CarryOn)) (first-tick .ranSlowly))
       ∙ not-ended answer-report answer-choose
 
   in-vain : ⊥

@@ -52,7 +52,7 @@ computed : Worked ponds × FirstTick × P5 × RollOver × Document003.Misses × 
 unfolding given Up Clock.after Clock.distance over sum largest smallest some all lowest first listed set has with takes users ceiling ceilings ticksInRound independentSum B synchronizationSum countInRange settingInRange inRange fault faultAt faulty overloaded sums verdict empty passes fresh place firstInOrder lastHolder heldResources blocked runner shortestAhead fastest inherited markAt rules turn choice Report.late Report.finished Report.reportRun Report.report notPendingFits pendingFits startedFits waitFits jobFits unused positionFits positionsFit unchanged consistent Machine.release Machine.choose Machine.report lines ticksClosed stepsGiven section endsAt hasEnded Bytes.recordAt Bytes.word Bytes.long Bytes.zeros Records.sized Records.isSetting Records.isTask Records.eventFits Records.isEvent Records.taskCount Records.wellFormed Contents.task Contents.taskRecord Contents.table Contents.start Contents.report Contents.event Lines.digits Lines.decimal Lines.field Lines.runner Lines.mode Lines.text Listing.step Listing.more Listing.page Listing.listed Listing.listing Runs.lineAfter calls refused Document003.blocking Document003.rules Document003.turn Document003.slow
 computed = (
   (refl, (refl, (refl, (refl, (refl, (refl, (refl, (refl, (refl, (refl, (refl, (refl, (refl, (refl, (refl, (refl, (refl, (refl, (refl, (refl, (refl, (refl, (refl, (refl, (refl, (refl, (refl, (refl, (refl, tt))))))))))))))))))))))))))))),
-  record { passes = refl; takenOn = refl; notPending = refl; pending = refl; chooses = refl; runs = refl; slowly = refl; notStarted = refl; started = refl; runsOther = refl; closes = refl; ran = refl; slow = refl; goesOn = refl; unused = refl; used = refl },
+  record { passes = refl; takenOn = refl; notPending = refl; pending = refl; chooses = refl; runs = refl; slowly = refl; notStarted = refl; started = refl; runsOther = refl; closes = refl; ran = refl; ranSlowly = refl; goesOn = refl; unused = refl; used = refl },
   record { passed = record { verdict = refl; limits = p5-limits }; tick = refl; taken = refl; waits = refl; runs = refl; ends = refl; refusals = refl },
   record { passed = record { verdict = refl; limits = rollOver-limits }; position2 = refl; takes = refl; takenSection = refl; position0 = refl; deadline = refl; isTop = refl; isBlocked = refl; inherits = refl; speeds = refl; cutAtLimit = refl; waits = refl; rolls = refl; cutAtBudget = refl },
   record { stays = refl; differs = refl; before = refl; arrives = refl; deadline = refl; refusals = refl; fast = refl; waits = refl; runs = refl; misses = refl; pending = refl; otherOrder = refl; otherEnds = refl },

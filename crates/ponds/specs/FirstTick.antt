@@ -36,7 +36,7 @@ pub record FirstTick : Type 0 where
   -- it carries on: the tick is closed, one step is used, and the job is still there
   pub closes : closed .number ≡ 0
   pub ran : closed .runner ≡ Job 1
-  pub slow : closed .speed ≡ 1
+  pub ranSlowly : closed .speed ≡ 1
   pub goesOn : jobAt (closed .state) 1 .pending ≡ true
   pub unused : jobAt (chosen 1 .state) 1 .used .0 ≡ 0
   pub used : jobAt (closed .state) 1 .used .0 ≡ 1
