@@ -58,7 +58,7 @@ module _ {t : Table} (passed : Passed written t) where
     pub second : s .half ≡ Second → Unchanged t s
 
   pub sees : {s : State} → Stands t s → Lawful (tasks t) (view t s)
-  sees stands = lawful passes stands (passed .limits)
+  sees stands = lawful passes stands (λ k l. passed .limits k (omega (arith, passes .count .high)) l)
 
   -- between ticks
   pub rests : (s : State) → Stands t s → s .half ≡ First → s .runner ≡ Runs.Nobody → Between (tasks t) (view t s) → Good s

@@ -43,6 +43,10 @@ module _ (now : Tick) where
       go (no l) = no-more (empty now) k empty-long l
 
 module _ (t : Table) (now : Tick) where
+  pub fresh-verdict : fresh t now .verdict ≡ verdict t
+  unfolding fresh
+  fresh-verdict = refl
+
   pub fresh-passed : answer (verdict t) .0 ≡ 0 → fresh t now ≡ record { verdict = verdict t; state = empty now }
   unfolding fresh passes
   fresh-passed h = simp (eq-eqb _ _ h)
