@@ -74,7 +74,7 @@ ponds =
     ∷ pond (answer (verdict (table 5 240 0 []))) (2, 0)
     -- "Whole listing for F 2, G 20", from the bytes of its record file to those of the listing
     ∷ pond (listing whole) (ascii "table 0\n0 release 1 0\n0 run 1 i 1 0\n1 release 0 0\n1 run 1 s 2 0\n2 run 0 s 2 1\n3 run 1 i 1 1\n")
-    -- ---- our own: each under the sentence that it works out, and false under the wrong version of it in specs/RuledOut
+    -- ---- our own, under the sentences that they work out: of each a wrong version is ruled out, and what that gives is in specs/RuledOut
     -- "With no pending job the processor idles: independent, speed 0, mark removed.": a mark is left; position 0 runs under it in tick 3, and after an idle tick 3 without it
     ∷ pond (line p7 0 (markLeft ++ (release 0 ∷ [])) (tick Done)) (Run (Clock.tick 3) (Job 0) Synchronization 4 1)
     ∷ pond (line p7 0 (markLeft ++ (tick CarryOn ∷ release 0 ∷ [])) (tick Done)) (Run (Clock.tick 4) (Job 0) Independent 1 1)

@@ -4,7 +4,7 @@ use mathlib.Core.{Path._≡_, Bool.cond, List.List, List.[], List._∷_, List._+
 use lib.{ListN.set, Dec.ltb, Dec.eqb}
 use Rattle.units.specs.{Clock.tick, Clock.after}
 use Rattle.table.specs.{declared.Task.Task, declared.Table.Table, Table.taskAt, Table.limit}
-use Rattle.state.specs.{declared.Job.Job, declared.State.State, declared.Held.Held, declared.Held.the-variants.Nothing, declared.Held.the-variants.In, declared.Mode.Mode, declared.Mode.the-variants.Independent, declared.Mode.the-variants.Synchronization, declared.Report.Report, declared.Report.the-variants.CarryOn, declared.Report.the-variants.Done, declared.Report.the-variants.Take, declared.Report.the-variants.Give, declared.Runner.Runner, State.jobAt, Order.positionOf, Order.noPlace, Order.heldResources, Answers.bare}
+use Rattle.state.specs.{declared.Job.Job, declared.Held.Held, declared.Held.the-variants.Nothing, declared.Held.the-variants.In, declared.Mode.Mode, declared.Mode.the-variants.Independent, declared.Mode.the-variants.Synchronization, declared.Report.Report, declared.Report.the-variants.CarryOn, declared.Report.the-variants.Done, declared.Report.the-variants.Take, declared.Report.the-variants.Give, declared.Runner.Runner, State.jobAt, Order.positionOf, Order.noPlace, Order.heldResources, Answers.bare}
 use Rattle.state.specs.declared.Runner.the-variants as Runs
 use Rattle.choice.specs.{Choice.top, Choice.runner, Choice.turn}
 use Rattle.report.specs.{declared.Outcome.Outcome, Report.worked, Report.settled, Report.atLimit, Report.objection, Report.finished, Report.reportAs}
@@ -35,7 +35,7 @@ byPeriod = by (record {
   reported = λ t s u said. reportAs t s u (u .runner) said;
 })
 
--- another report of the job that runs: which numbers it is refused with, and what becomes of the job
+-- another report of the job that runs: the number that it is refused with, and what becomes of the job. No tick of theirs here is idle.
 abbrev pub byReport : (Task → Job → ℕ → Report → ℕ) → (Task → Report → ℕ → Job → Outcome) → Machine
 byReport objects makes = by (record {
   taken = releasedAt;
@@ -47,7 +47,7 @@ byReport objects makes = by (record {
       cond (eqb number 0) (finished s (set (s .jobs) p (o .job)) u (o .ending)) (bare number s);
 })
 
--- a holder at its limit is cut before a give is done
+-- a holder at its limit is cut, whatever it reports
 abbrev pub cutFirst : Machine
 cutFirst = byReport objection λ task said v j. let w = worked task v j in
     cond (atLimit task (w .held)) (settled task CarryOn w) (settled task said w)
