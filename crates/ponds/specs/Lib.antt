@@ -7,3 +7,4 @@ pub mod Document003
 pub mod Ponds
 pub mod FirstTick
 pub mod Broken
+pub mod RuledOut

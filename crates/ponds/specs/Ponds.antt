@@ -1,4 +1,4 @@
--- "Ponds we have worked by hand": for each what the rules give, and beside it what document 01 says.
+-- "Ponds we have worked by hand": for each what the rules give, and beside it what document 01 says. Behind them stand our own.
 use Prim.Native.Nat.{_*_}
 use mathlib.Core.Path.{_≡_}
 use mathlib.Core.List.{List, [], _∷_, _++_}
@@ -14,8 +14,8 @@ use Rattle.state.specs.declared.Mode.the-variants.{Independent, Synchronization
 use Rattle.lines.specs.declared.Line.the-variants.{Release, Run, Refused}
 use Rattle.lines.specs.Lines.{ascii}
 use Rattle.listing.specs.Listing.{listing}
-use Rattle.ponds.specs.Tables.{table, p1, p3, p5, two, p6, p7, p8, p5Before, p5Later}
-use Rattle.ponds.specs.Runs.{release, tick, carry, line}
+use Rattle.ponds.specs.Tables.{table, p1, p3, p5, two, p6, p7, p8, p5Before, p5Later, markLeft}
+use Rattle.ponds.specs.Runs.{release, tick, carry, line, jobAfter}
 use Rattle.ponds.specs.Files.{whole}
 use Rattle.ponds.specs.Histories.{ticked, later2}
 use Rattle.ponds.specs.Document003.{document003, p5Taken}
@@ -74,6 +74,22 @@ ponds =
     ∷ pond (answer (verdict (table 5 240 0 []))) (2, 0)
     -- "Whole listing for F 2, G 20", from the bytes of its record file to those of the listing
     ∷ pond (listing whole) (ascii "table 0\n0 release 1 0\n0 run 1 i 1 0\n1 release 0 0\n1 run 1 s 2 0\n2 run 0 s 2 1\n3 run 1 i 1 1\n")
+    -- ---- our own, under the sentences that they work out: of each a wrong version is ruled out, and what that gives is in specs/RuledOut
+    -- "With no pending job the processor idles: independent, speed 0, mark removed.": a mark is left; position 0 runs under it in tick 3, and after an idle tick 3 without it
+    ∷ pond (line p7 0 (markLeft ++ (release 0 ∷ [])) (tick Done)) (Run (Clock.tick 3) (Job 0) Synchronization 4 1)
+    ∷ pond (line p7 0 (markLeft ++ (tick CarryOn ∷ release 0 ∷ [])) (tick Done)) (Run (Clock.tick 4) (Job 0) Independent 1 1)
+    -- "Release: deadline = tick + D, wait = T.": with D 5 and T 7
+    ∷ pond (jobAfter p8 100 (release 0 ∷ []) 0 .deadline .0) 105
+    ∷ pond (jobAfter p8 100 (release 0 ∷ []) 0 .wait .0) 7
+    -- "else take or give is done; else a holder at its limit is ended as cut": P9 with a give in the tick that reaches the limit, which goes on
+    ∷ pond (line two 0 (release 1 ∷ tick (Take 0) ∷ carry 3) (tick Give)) (Run (Clock.tick 4) (Job 1) Independent 1 0)
+    -- "Report: 9, 11, 14, 13, 15, 16.": a take of resource 8, and of resource 1 with limit 0, is 14 while holding, and 13 while holding nothing
+    ∷ pond (line two 0 (release 1 ∷ tick (Take 0) ∷ []) (tick (Take 8))) (Refused (Clock.tick 1) 14)
+    ∷ pond (line two 0 (release 1 ∷ tick (Take 0) ∷ []) (tick (Take 1))) (Refused (Clock.tick 1) 14)
+    ∷ pond (line two 0 (release 1 ∷ []) (tick (Take 8))) (Refused (Clock.tick 0) 13)
+    ∷ pond (line two 0 (release 1 ∷ []) (tick (Take 1))) (Refused (Clock.tick 0) 13)
+    -- "The runner's steps used rise by the speed, up to C.", and not "trimming a job's steps used by its section limit": 4 ticks of 4 steps, of which the section has 10
+    ∷ pond (jobAfter (p1 240 4 5) 0 (release 0 ∷ tick (Take 0) ∷ (carry 2 ++ (tick Give ∷ []))) 0 .used .0) 16
     ∷ []
 
 -- every pond of a list comes out as the paper says

@@ -1,11 +1,11 @@
--- The tables of the ponds, and P5's events.
+-- The tables of the ponds, and the events of P5 and of a mark that is left.
 use Prim.Native.Nat.{ℕ}
 use mathlib.Core.List.{List, [], _∷_, _++_, map}
 use Rattle.units.specs.Amounts.{ticks, steps}
 use Rattle.units.specs.Folds.{listed}
 use Rattle.table.specs.declared.Task.{Task}
 use Rattle.table.specs.declared.Table.{Table}
-use Rattle.state.specs.declared.Report.the-variants.{Take}
+use Rattle.state.specs.declared.Report.the-variants.{Take, Done}
 use Rattle.records.specs.declared.Event.{Event}
 use Rattle.ponds.specs.Runs.{release, tick, carry}
 
@@ -59,3 +59,7 @@ p5Before = (release 3 ∷ tick (Take 0) ∷ release 0 ∷ release 1 ∷ []) ++ c
 
 abbrev pub p5Later : ℕ → List Event
 p5Later n = carry 4 ++ ((release 0 ∷ release 1 ∷ []) ++ carry n)
+
+-- of P7: position 3 takes resource 0, blocks position 1 in tick 1, and is marked; then both are done, and the mark is left, 87 ticks ahead
+abbrev pub markLeft : List Event
+markLeft = release 3 ∷ tick (Take 0) ∷ release 1 ∷ tick Done ∷ tick Done ∷ []
