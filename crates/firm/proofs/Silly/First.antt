@@ -17,7 +17,7 @@ use Rattle.state.specs.{declared.State.State, declared.Answer.Answer, declared.
 use Rattle.state.specs.declared.Runner.the-variants.{Nobody, Job}
 use Rattle.promise.specs.History.{Machine, Call, release, choose, report, answered, Line, lineOf, lines, start, isReport, isAt, isOwn, stepsGiven, longer, afterCall, section, isLast, endsAt, ticksClosed, takesOn, latest, isThere, wait, standing, ofReport, numberBy, runnerBy}
 use Rattle.promise.specs.Promise.{Passed, Kept, Promise}
-use Rattle.promise.proofs.History.Counts.{no-tick, one-tick, not-worked, same-section, has-worked, next-section}
+use Rattle.promise.proofs.History.Counts.{one-tick, not-worked, same-section, has-worked, next-section}
 use Rattle.promise.proofs.History.List.{taken-holds, latest-new, latest-on, there-new, there-on, ends-own, standing-new}
 use Rattle.promise.proofs.Since.{is-pending}
 use Rattle.ponds.specs.Tables.{two}
@@ -185,7 +185,7 @@ module _ (m : Machine) where
             omega (
               arith,
               eight ticks chooses refl refl o e,
-              mid-tick .atASpeed CarryOn 1 o .2,
+              mid-tick .atASpeed CarryOn 1 o .1,
             )
 
     pub ends-nobody : ((t : Table) (s : State) (said : Report) (k : ℕ) → m .report t s said .number ≡ 0 → jobAt (m .report t s said .state) k .pending ≡ false) → ⊥

@@ -13,6 +13,7 @@ use Rattle.table.specs.Table.{taskAt, D, ceilings}
 use Rattle.state.specs.declared.Job.{Job}
 use Rattle.state.specs.declared.Mark.{Mark}
 use Rattle.state.specs.declared.Mark.the-variants.{Absent, At}
+use Rattle.state.specs.declared.Mode.the-variants.{Synchronization}
 use Rattle.state.specs.declared.Place.{Place}
 use Rattle.state.specs.declared.State.{State}
 use Rattle.state.specs.State.{jobAt}
@@ -226,6 +227,15 @@ module _ {t : Table} {passed : Passed written t} {s : State} (good : Good passed
             Law.runner-place t s ready some,
             ap (markPlace now) e,
           ))
+
+  -- a job that runs over a holder is in synchronization
+  pub over-holder : (k : ℕ) → holdsAny (jobAt s k .held) ≡ true → k ≢ at → turn t s .mode ≡ Synchronization
+  over-holder k h n = marks (go (ℕ-discrete at first) (first-first k (seen .started-pending k (seen .holds-started k h)))) .mode
+    where
+      go : Dec (at ≡ first) → (k ≡ first) ⊎ (placeAt s first < placeAt s k) → Need
+      go (no e) o = inl e
+      go (yes e) (inl f) = absurd (n (f ∙ sym e))
+      go (yes e) (inr o) = inr (inl (k, h, omega (arith, o, ap (placeAt s) e)))
 
   -- ---- the laws together
 
