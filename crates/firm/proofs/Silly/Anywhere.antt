@@ -38,7 +38,7 @@ done-gone t k l h c own there =
 used-by : (t : Table) (now k : ℕ) (h : List Line) → jobBy t now k h .used .0 ≡ cond (isThere t k h) (stepsGiven t k (latest k h)) 0
 used-by t now k h = go (isThere t k h)
   where
-    go : (b : Bool) → cond b (pendingBy t now k h (latest k h)) (absentBy t k h) .used .0 ≡ cond b (stepsGiven t k (latest k h)) 0
+    go : (b : Bool) → cond b (pendingBy t now k h) (absentBy t k h) .used .0 ≡ cond b (stepsGiven t k (latest k h)) 0
     go true = refl
     go false = refl
 

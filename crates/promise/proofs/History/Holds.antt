@@ -42,7 +42,7 @@ module _ {t : Table} {passed : Passed written t} {s : State} (good : Good passed
   empty k p w i =
       record { pending = p i; started = w .started i; deadline = tick (w .deadline i); used = steps (w .used i); held = w .held i; wait = ticks (listed .waits k i) }
 
-  filled : (k : ℕ) → Tells t s k (latest k h) → jobAt s k ≡ pendingBy t (s .tick .0) k h (latest k h)
+  filled : (k : ℕ) → Tells t s k (latest k h) → jobAt s k ≡ pendingBy t (s .tick .0) k h
   filled k w i =
       record { pending = w .pending i; started = w .started i; deadline = tick (due i); used = steps (w .used i); held = w .held i; wait = ticks (listed .waits k i) }
     where
@@ -59,8 +59,8 @@ module _ {t : Table} {passed : Passed written t} {s : State} (good : Good passed
       cleared f (no l) = let e = good .stands .past k (omega arith) in e ∙ ap (λ (n : ℕ). onlyWait n) (sym (ap (λ (j : Job). j .wait .0) e) ∙ listed .waits k)
 
       go : Shows t s h k → jobAt s k ≡ jobBy t (s .tick .0) k h
-      go (there e w) = filled k w ∙ sym (ap (λ (b : Bool). cond b (pendingBy t (s .tick .0) k h (latest k h)) (absentBy t k h)) e)
-      go (gone e f) = cleared f (decLt k (t .count)) ∙ sym (ap (λ (b : Bool). cond b (pendingBy t (s .tick .0) k h (latest k h)) (absentBy t k h)) e)
+      go (there e w) = filled k w ∙ sym (ap (λ (b : Bool). cond b (pendingBy t (s .tick .0) k h) (absentBy t k h)) e)
+      go (gone e f) = cleared f (decLt k (t .count)) ∙ sym (ap (λ (b : Bool). cond b (pendingBy t (s .tick .0) k h) (absentBy t k h)) e)
 
   pub pending-is : (k : ℕ) → jobAt s k .pending ≡ isThere t k h
   pending-is k = ap (λ (j : Job). j .pending) (state-is k) ∙ pending-by t (s .tick .0) k h

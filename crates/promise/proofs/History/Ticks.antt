@@ -5,7 +5,6 @@ use mathlib.Core.Bool.{Bool, true, false, cond, false≢true}
 use mathlib.Core.List.{List, _∷_}
 use mathlib.Core.Logic.{_⊎_, inl, inr}
 use mathlib.Core.Option.{some}
-use native.Mathlib.Decide.{decLt}
 use native.Mathlib.Omega.{arith}
 use lib.ListN.{set}
 use borrow.Author.Tests.{eqb-true}
@@ -18,7 +17,7 @@ use Rattle.state.specs.declared.Section.{Section}
 use Rattle.state.specs.declared.Held.the-variants.{In}
 use Rattle.state.specs.declared.Half.the-variants.{Second}
 use Rattle.state.specs.declared.Mode.{Mode}
-use Rattle.state.specs.declared.Mode.the-variants.{Independent, Synchronization}
+use Rattle.state.specs.declared.Mode.the-variants.{Synchronization}
 use Rattle.state.specs.declared.Report.{Report}
 use Rattle.state.specs.declared.Report.the-variants.{CarryOn, Done, Take, Give}
 use Rattle.state.specs.declared.Runner.{Runner}
@@ -27,16 +26,15 @@ use Rattle.state.specs.declared.State.{State}
 use Rattle.state.specs.State.{jobAt}
 use Rattle.state.specs.Order.{noPlace, holdsAny}
 use Rattle.choice.specs.declared.Turn.{Turn}
-use Rattle.choice.specs.Choice.{top, runner, alone, idle, turn, choice}
+use Rattle.choice.specs.Choice.{top, runner, alone, turn, choice}
 use Rattle.choice.proofs.Laws.Choice as Law
-use Rattle.choice.proofs.Laws.Runner.{nobody}
 use Rattle.report.specs.declared.Outcome.{Outcome}
 use Rattle.report.specs.Report as Report
 use Rattle.report.proofs.Laws.Jobs.{Fate, done, spent, stopped, goes, settled-is, closed-set-same}
 use Rattle.report.proofs.Laws.Answers.{outcome, taken-answer}
 use Rattle.machine.specs.Machine.{chosen}
 use Rattle.machine.proofs.Laws.Calls as Calls
-use Rattle.promise.specs.History.{written, Call, choose, report, answered, Line, isReport, isChoice, isTick, isAt, isOwn, section, endsAt, latest, isThere, standing, howEnded, endingBy}
+use Rattle.promise.specs.History.{written, Call, choose, report, answered, Line, isReport, isTick, isAt, isOwn, section, endsAt, latest, isThere, standing, howEnded, endingBy}
 use Rattle.promise.specs.Promise.{Passed, InMode}
 use Rattle.promise.proofs.Edge.Choice as Chosen
 use Rattle.promise.proofs.Edge.Invariant.{some-top, passes, Good, is-ready}
@@ -208,33 +206,3 @@ module _ {t : Table} {passed : Passed written t} {s : State} (good : Good passed
       → isThere t j h ≡ true → section j (latest j h) ≡ In x → reply (report said) .mode ≡ Synchronization
   over-holder said k j x own n e held =
       own-turn said k own (λ o v. o ≡ Synchronization) (λ q r f l. over-a-holder k q r f j x n (tells good listed j (pending-is good listed j ∙ e) .held ∙ held))
-
-  -- ---- idling
-
-  pub idle-is : reply choose .number ≡ 0 → reply choose .runner ≡ Runs.Nobody
-      → ((k : ℕ) → isThere t k h ≡ false) × (reply choose .mode ≡ Independent) × (reply choose .speed ≡ 0)
-  idle-is zero idles-now = go (keep good choose .made)
-    where
-      go : Made t s choose (reply choose) → ((k : ℕ) → isThere t k h ≡ false) × (reply choose .mode ≡ Independent) × (reply choose .speed ≡ 0)
-      go (refused n l e) = absurd (omega (arith, l, zero, ap (λ (b : Answer). b .number) e))
-      go (takes-on p c l f e) = absurd (false≢true (sym (ap isChoice c)))
-      go (idles c m r f e) = absurd (false≢true (ap isReport c))
-      go (runs p q c m r l f e) = absurd (false≢true (ap isReport c))
-      go (chooses c e) = (λ k. absent k (isThere t k h) refl, ap (λ (b : Answer). b .mode) e ∙ ap (λ (u : Turn). u .mode) idle-turn, ap (λ (b : Answer). b .speed) e ∙ ap (λ (u : Turn). u .speed) idle-turn)
-        where
-          nobody-runs : turn t s .runner ≡ Runs.Nobody
-          nobody-runs = sym (ap (λ (u : Turn). u .runner) (Law.choice-turn t s)) ∙ sym (ap (λ (b : Answer). b .runner) e) ∙ idles-now
-
-          none-top : noPlace ≤ top s
-          none-top = go-top (decLt (top s) noPlace)
-            where
-              go-top : Dec (top s < noPlace) → noPlace ≤ top s
-              go-top (yes l) = absurd (nobody (sym nobody-runs ∙ Law.runner-is t s (is-ready good) l))
-              go-top (no l) = omega arith
-
-          idle-turn : choice t s .turn ≡ idle
-          idle-turn = Law.choice-turn t s ∙ Law.idle-turn t s none-top
-
-          absent : (k : ℕ) (b : Bool) → isThere t k h ≡ b → isThere t k h ≡ false
-          absent k false q = q
-          absent k true q = absurd (omega (arith, none-top, some-top good k (pending-is good listed k ∙ q)))

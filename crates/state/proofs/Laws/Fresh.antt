@@ -1,9 +1,11 @@
 -- A fresh start. Assumes nothing.
 use Prim.Native.Nat.{ℕ, _<_}
 use mathlib.Core.Path.{_≡_, refl}
+use mathlib.Core.Bool.{cond}
 use native.Mathlib.Decide.{decLt}
 use native.Mathlib.Omega.{arith}
 use lib.ListN.{length, List·getD-eq-default}
+use lib.Dec.{eqb}
 use borrow.Author.Tests.{eq-eqb, ne-eqb}
 use Rattle.units.specs.declared.Tick.{Tick}
 use Rattle.units.specs.Clock.{tick}
@@ -43,9 +45,9 @@ module _ (now : Tick) where
       go (no l) = no-more (empty now) k empty-long l
 
 module _ (t : Table) (now : Tick) where
-  pub fresh-verdict : fresh t now .verdict ≡ verdict t
-  unfolding fresh
-  fresh-verdict = refl
+  pub fresh-is : fresh t now ≡ record { verdict = verdict t; state = empty (cond (eqb (answer (verdict t) .0) 0) now (tick 0)) }
+  unfolding fresh passes
+  fresh-is = refl
 
   pub fresh-passed : answer (verdict t) .0 ≡ 0 → fresh t now ≡ record { verdict = verdict t; state = empty now }
   unfolding fresh passes

@@ -1,0 +1,131 @@
+-- Whom a choice names, by the whole list. Assumes nothing.
+use Prim.Native.Nat.{ℕ, _≤_, _<_}
+use mathlib.Core.Path.{_≡_, refl, sym, ap, _∙_}
+use mathlib.Core.Bool.{Bool, true, false, false≢true}
+use mathlib.Core.List.{List}
+use mathlib.Core.Logic.{inl, inr}
+use native.Mathlib.Decide.{decLt}
+use native.Mathlib.Omega.{arith}
+use Rattle.units.specs.Clock.{distance}
+use Rattle.table.specs.declared.Table.{Table}
+use Rattle.state.specs.declared.Answer.{Answer}
+use Rattle.state.specs.declared.Section.{Section}
+use Rattle.state.specs.declared.Held.{Held}
+use Rattle.state.specs.declared.Held.the-variants.{Nothing, In}
+use Rattle.state.specs.declared.Mode.the-variants.{Independent}
+use Rattle.state.specs.declared.Runner.the-variants as Runs
+use Rattle.state.specs.declared.State.{State}
+use Rattle.state.specs.State.{jobAt}
+use Rattle.state.specs.Order.{placeAt, positionOf, noPlace, isPending, isStarted}
+use Rattle.state.proofs.Laws.Order.{first-le, nearer-first, lower-first}
+use Rattle.choice.specs.declared.Turn.{Turn}
+use Rattle.choice.specs.Choice.{top, blocked, runner, turn, choice}
+use Rattle.choice.proofs.Laws.Bars.{bars-held}
+use Rattle.choice.proofs.Laws.Choice as Law
+use Rattle.choice.proofs.Laws.Ready.{blocked-tells}
+use Rattle.choice.proofs.Laws.Runner.{nobody, runner-free, runner-blocked}
+use Rattle.machine.specs.Machine.{chosen}
+use Rattle.promise.specs.History.{written, Line, choose, answered, isReport, isChoice, section, hasStarted, latest, isThere, ticksLeft, Ahead}
+use Rattle.promise.specs.Promise.{Passed}
+use Rattle.promise.proofs.Edge.Choice as Chosen
+use Rattle.promise.proofs.Edge.Invariant.{passes, Good, is-ready, some-top}
+use Rattle.promise.proofs.Edge.View.{below-16}
+use Rattle.promise.proofs.Keep.Made.{Made, refused, takes-on, chooses, idles, runs}
+use Rattle.promise.proofs.Keep.Each.{keep}
+use Rattle.promise.proofs.History.Listed.{Listed}
+use Rattle.promise.proofs.History.Holds.{tells, pending-is}
+
+module _ {t : Table} {passed : Passed written t} {s : State} (good : Good passed s) {h : List Line} (listed : Listed t s h) where
+  abbrev a : Answer
+  a = answered written t s choose
+
+  module _ (zero : a .number ≡ 0) where
+    chose : a ≡ chosen (choice t s)
+    chose = go (keep good choose .made)
+      where
+        go : Made t s choose a → a ≡ chosen (choice t s)
+        go (refused n l e) = absurd (omega (arith, l, zero, ap (λ (b : Answer). b .number) e))
+        go (takes-on p c l f e) = absurd (false≢true (sym (ap isChoice c)))
+        go (idles c m r f e) = absurd (false≢true (ap isReport c))
+        go (runs p q c m r l f e) = absurd (false≢true (ap isReport c))
+        go (chooses c e) = e
+
+    -- what is read off the answer is read off the turn
+    its : {A : Type 0} (of : Answer → A) (by : Turn → A) → of (chosen (choice t s)) ≡ by (choice t s .turn) → of a ≡ by (turn t s)
+    its of by e = ap of chose ∙ e ∙ ap by (Law.choice-turn t s)
+
+    -- nobody
+    module _ (idles-now : a .runner ≡ Runs.Nobody) where
+      none-top : noPlace ≤ top s
+      none-top = go (decLt (top s) noPlace)
+        where
+          go : Dec (top s < noPlace) → noPlace ≤ top s
+          go (yes l) = absurd (nobody (sym (sym (its (λ b. b .runner) (λ u. u .runner) refl) ∙ idles-now) ∙ Law.runner-is t s (is-ready good) l))
+          go (no l) = omega arith
+
+      none-there : (k : ℕ) (b : Bool) → isThere t k h ≡ b → isThere t k h ≡ false
+      none-there k false q = q
+      none-there k true q = absurd (omega (arith, none-top, some-top good k (pending-is good listed k ∙ q)))
+
+      pub idle-is : ((k : ℕ) → isThere t k h ≡ false) × (a .mode ≡ Independent) × (a .speed ≡ 0)
+      idle-is = (
+        λ k. none-there k (isThere t k h) refl,
+        its (λ b. b .mode) (λ u. u .mode) refl ∙ ap (λ (u : Turn). u .mode) (Law.idle-turn t s none-top),
+        its (λ b. b .speed) (λ u. u .speed) refl ∙ ap (λ (u : Turn). u .speed) (Law.idle-turn t s none-top),
+      )
+
+    -- a job that is ahead of the one that is named has not started, and some job holds a resource
+    module _ (k j : ℕ) (named : a .runner ≡ Runs.Job k) (there-j : isThere t j h ≡ true) (ahead : Ahead t h j k) where
+      runs-k : turn t s .runner ≡ Runs.Job k
+      runs-k = sym (its (λ b. b .runner) (λ u. u .runner) refl) ∙ named
+
+      some : top s < noPlace
+      some = go (decLt (top s) noPlace)
+        where
+          go : Dec (top s < noPlace) → top s < noPlace
+          go (yes l) = l
+          go (no l) = absurd (nobody (sym (ap (λ (u : Turn). u .runner) (Law.idle-turn t s (omega arith))) ∙ runs-k))
+
+      same : positionOf (runner t s) ≡ k
+      same = Chosen.runs-at good some k runs-k
+
+      pending-j : jobAt s j .pending ≡ true
+      pending-j = pending-is good listed j ∙ there-j
+
+      pending-k : jobAt s k .pending ≡ true
+      pending-k = ap (λ (i : ℕ). jobAt s i .pending) (sym same) ∙ Law.runner-pending t s (is-ready good) some
+
+      small : j < 16
+      small = below-16 (passes passed) (good .stands) j pending-j
+
+      near : (i : ℕ) → jobAt s i .pending ≡ true → distance (s .tick .0) (jobAt s i .deadline .0) ≡ ticksLeft t i h
+      near i p = omega (arith, tells good listed i p .near)
+
+      nearer : Ahead t h j k → placeAt s j < placeAt s k
+      nearer (inl w) =
+          nearer-first (s .tick .0) (jobAt s j .deadline .0) (jobAt s k .deadline .0) j k (omega (arith, small)) (omega (arith, near j pending-j, near k pending-k, w))
+      nearer (inr w) = lower-first (s .tick .0) (jobAt s j .deadline .0) (jobAt s k .deadline .0) j k (w .1) (near j pending-j ∙ w .0 ∙ sym (near k pending-k))
+
+      run-is : runner t s ≡ placeAt s k
+      run-is = Law.runner-place t s (is-ready good) some ∙ ap (placeAt s) same
+
+      unstarted : blocked t s (positionOf (top s)) ≡ true → (b : Bool) → jobAt s j .started ≡ b → jobAt s j .started ≡ false
+      unstarted e false f = f
+      unstarted e true f = absurd (omega (arith, first-le s isStarted j small (rw (pending-j, f) refl), runner-blocked t s e, run-is, nearer ahead))
+
+      in-section : (i : ℕ) (x : Held) → section i (latest i h) ≡ x → (x ≡ Nothing → ⊥) → (y : Section) × (section i (latest i h) ≡ In y)
+      in-section i Nothing e holds = absurd (holds refl)
+      in-section i (In y) e holds = (y, e)
+
+      pub in-order : (hasStarted j (latest j h) ≡ false) × ((i : ℕ) × (x : Section) × (isThere t i h ≡ true) × (section i (latest i h) ≡ In x))
+      in-order = go (blocked t s (positionOf (top s))) refl
+        where
+          go : (b : Bool) → blocked t s (positionOf (top s)) ≡ b
+              → (hasStarted j (latest j h) ≡ false) × ((i : ℕ) × (x : Section) × (isThere t i h ≡ true) × (section i (latest i h) ≡ In x))
+          go false e = absurd (omega (arith, first-le s isPending j small pending-j, runner-free t s e, run-is, nearer ahead))
+          go true e =
+              let w = blocked-tells t s (positionOf (top s)) e .1 in
+              let i = w .0 in
+              let pending-i = w .1 .2 in
+              let y = in-section i (section i (latest i h)) refl (λ z. bars-held _ _ _ (w .1 .1) (tells good listed i pending-i .held ∙ z)) in
+              (sym (tells good listed j pending-j .started) ∙ unstarted e (jobAt s j .started) refl, (i, y .0, sym (pending-is good listed i) ∙ pending-i, y .1))
