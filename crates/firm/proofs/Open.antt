@@ -93,17 +93,17 @@ module _ (m n : Machine) (t : Table) (now : ℕ) (s r : State) (h g : List Line)
 
 module _ (m n : Machine) (pm : Promise m) (pn : Promise n) (t : Table) (a : Passed m t) (b : Passed n t) (now : ℕ) (small : now < 2 ^ 32)
     (alike : (calls : List Call) → Told (answered m t (stateAfter m t (start m t now) calls) choose) (answered n t (stateAfter n t (start n t now) calls) choose)) where
-  at-each : (calls : List Call) → blanks (lines m t (start m t now) calls) ≡ blanks (lines n t (start n t now) calls)
+  same-lines : (calls : List Call) → blanks (lines m t (start m t now) calls) ≡ blanks (lines n t (start n t now) calls)
   unfolding lines
-  at-each [] = refl
-  at-blanks (call ∷ before) =
-      same-next m n t now _ _ _ _ (pm .kept t a now small before) (pn .kept t b now small before) (at-each before) (alike before) call
+  same-lines [] = refl
+  same-lines (call ∷ before) =
+      same-next m n t now _ _ _ _ (pm .kept t a now small before) (pn .kept t b now small before) (same-lines before) (alike before) call
 
   same-at : (calls : List Call) → Same m n t (stateAfter m t (start m t now) calls) (stateAfter n t (start n t now) calls)
   same-at calls =
       let km = pm .kept t a now small calls in
       let kn = pn .kept t b now small calls in
-      let e = at-each calls in
+      let e = same-lines calls in
       record {
         number = same-number m n t now _ _ _ _ km kn e (alike calls);
         told = same-told m n t now _ _ _ _ km kn e (alike calls);

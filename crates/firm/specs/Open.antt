@@ -22,8 +22,12 @@ pub record Same (m n : Machine) (t : Table) (s r : State) : Type 0 where
   pub runner : s .runner ≡ r .runner
   pub jobs : (k : ℕ) → jobAt s k ≡ jobAt r k
 
+-- the state after some calls
+abbrev pub at : Table → ℕ → List Call → Machine → State
+at t now calls m = stateAfter m t (start m t now) calls
+
 -- two machines that keep the promise, and whose choices tell the same at each place, are the same there
 abbrev pub Determined : Type 0
 Determined = (m n : Machine) → Promise m → Promise n → (t : Table) → Passed m t → Passed n t → (now : ℕ) → now < 2 ^ 32
-    → let at = λ (x : Machine) (calls : List Call). stateAfter x t (start x t now) calls in
-    ((calls : List Call) → Told (answered m t (at m calls) choose) (answered n t (at n calls) choose)) → (calls : List Call) → Same m n t (at m calls) (at n calls)
+    → ((calls : List Call) → Told (answered m t (at t now calls m) choose) (answered n t (at t now calls n) choose))
+    → (calls : List Call) → Same m n t (at t now calls m) (at t now calls n)

@@ -1,13 +1,14 @@
 -- The wrong versions that our own ponds rule out, and what each gives in the same pond: something else than the list says.
-use Prim.Native.Nat.{ℕ, _-_, min}
+use Prim.Native.Nat.{ℕ}
 use mathlib.Core.{Path._≡_, Bool.cond, List.List, List.[], List._∷_, List._++_}
 use lib.{ListN.set, Dec.ltb, Dec.eqb}
 use Rattle.units.specs.{Clock.tick, Clock.after}
+use Rattle.admission.specs.Admission.{verdict}
 use Rattle.table.specs.{declared.Task.Task, declared.Table.Table, Table.taskAt, Table.limit}
-use Rattle.state.specs.{declared.Job.Job, declared.Held.Held, declared.Held.the-variants.Nothing, declared.Held.the-variants.In, declared.Mode.Mode, declared.Mode.the-variants.Independent, declared.Mode.the-variants.Synchronization, declared.Report.Report, declared.Report.the-variants.CarryOn, declared.Report.the-variants.Done, declared.Report.the-variants.Take, declared.Report.the-variants.Give, declared.Runner.Runner, State.jobAt, Order.positionOf, Order.noPlace, Order.heldResources, Answers.bare}
+use Rattle.state.specs.{declared.Job.Job, declared.State.State, declared.Answer.Answer, declared.Mode.Mode, declared.Mode.the-variants.Independent, declared.Mode.the-variants.Synchronization, declared.Report.Report, declared.Report.the-variants.CarryOn, declared.Report.the-variants.Done, declared.Report.the-variants.Take, declared.Report.the-variants.Give, declared.Runner.Runner, State.jobAt, Order.noPlace, Order.heldResources, Answers.bare}
 use Rattle.state.specs.declared.Runner.the-variants as Runs
-use Rattle.choice.specs.{Choice.top, Choice.runner, Choice.turn}
-use Rattle.report.specs.{declared.Outcome.Outcome, Report.worked, Report.settled, Report.atLimit, Report.objection, Report.finished, Report.reportAs}
+use Rattle.choice.specs.{declared.Turn.Turn, Choice.top, Choice.turn}
+use Rattle.report.specs.{Report.worked, Report.settled, Report.atLimit, Report.objection, Report.reportIdle, Report.reportAs}
 use Rattle.machine.specs.Machine.{releasedAt}
 use Rattle.promise.specs.History.{Machine, stateAfter, start}
 use Rattle.records.specs.declared.Event.{Event}
@@ -15,7 +16,8 @@ use Rattle.ponds.specs.Runs.{release, carry}
 use Rattle.ponds.specs.Runs as Events
 use Rattle.ponds.specs.Tables.{p1, two, p7, p8, markLeft}
 use Rattle.ponds.specs.Histories.{calls, ticked}
-use Rattle.ponds.specs.Variants.{by, byTurn}
+use Rattle.ponds.specs.Variants.{by, byTurn, byReport}
+use Rattle.ponds.specs.Broken.{byOutcome, trimmed}
 
 -- ---- the wrong versions
 
@@ -29,27 +31,16 @@ dueAfterT now task j = record { pending = j .pending; started = j .started; dead
 
 abbrev pub byPeriod : Machine
 byPeriod = by (record {
+  verdict = verdict;
   taken = λ t s p. let r = releasedAt t s p in
       record { tick = r .tick; jobs = set (r .jobs) p (dueAfterT (s .tick .0) (taskAt t p) (jobAt r p)); mark = r .mark; half = r .half; runner = r .runner };
   turn = turn;
   reported = λ t s u said. reportAs t s u (u .runner) said;
 })
 
--- another report of the job that runs: the number that it is refused with, and what becomes of the job. No tick of theirs here is idle.
-abbrev pub byReport : (Task → Job → ℕ → Report → ℕ) → (Task → Report → ℕ → Job → Outcome) → Machine
-byReport objects makes = by (record {
-  taken = releasedAt;
-  turn = turn;
-  reported = λ t s u said.
-      let p = positionOf (runner t s) in
-      let number = objects (taskAt t p) (jobAt s p) (heldResources s) said in
-      let o = makes (taskAt t p) said (u .speed) (jobAt s p) in
-      cond (eqb number 0) (finished s (set (s .jobs) p (o .job)) u (o .ending)) (bare number s);
-})
-
 -- a holder at its limit is cut, whatever it reports
 abbrev pub cutFirst : Machine
-cutFirst = byReport objection λ task said v j. let w = worked task v j in
+cutFirst = byOutcome λ task said v j. let w = worked task v j in
     cond (atLimit task (w .held)) (settled task CarryOn w) (settled task said w)
 
 -- a take of a resource above 7 or with limit 0 has the number n whether the job holds or not: with 13 that is 13 before 14, with 14 there is no 13
@@ -59,16 +50,13 @@ always n task j held Done = 0
 always n task j held Give = objection task j held Give
 always n task j held (Take r) = cond (eqb (limit task r) 0) n (objection task j held (Take r))
 
+abbrev pub refusing : ℕ → Table → State → Turn → Runner → Report → Answer
+refusing n t s u Runs.Nobody said = reportIdle s u said
+refusing n t s u (Runs.Job p) said = let number = always n (taskAt t p) (jobAt s p) (heldResources s) said in
+    cond (eqb number 0) (reportAs t s u (u .runner) said) (bare number s)
+
 abbrev pub takeRefused : ℕ → Machine
-takeRefused n = byReport (always n) λ task said v j. settled task said (worked task v j)
-
--- "trimming a job's steps used by its section limit": of a tick only the steps that the section has left are counted
-abbrev pub leftIn : Task → ℕ → Held → ℕ
-leftIn task v Nothing = v
-leftIn task v (In x) = min v (limit task (x .resource) - x .steps .0)
-
-abbrev pub trimmed : Machine
-trimmed = byReport objection λ task said v j. settled task said (worked task (leftIn task v (j .held)) j)
+takeRefused n = byReport λ t s u said. refusing n t s u (u .runner) said
 
 -- ---- what they give
 

@@ -9,15 +9,14 @@ use Rattle.units.specs.Amounts.{given}
 use Rattle.units.proofs.Laws.Folds.{both}
 use Rattle.table.specs.declared.Table.{Table}
 use Rattle.table.specs.Table.{C}
-use Rattle.state.specs.{declared.State.State, declared.Answer.Answer, declared.Runner.Runner, declared.Report.Report, declared.Report.the-variants.Done, State.jobAt}
+use Rattle.state.specs.{declared.State.State, declared.Answer.Answer, declared.Runner.Runner, declared.Report.Report, declared.Report.the-variants.CarryOn, declared.Report.the-variants.Done, declared.Report.the-variants.Take, declared.Report.the-variants.Give, declared.Held.Held, declared.Held.the-variants.Nothing, declared.Held.the-variants.In, State.jobAt}
 use Rattle.state.specs.declared.Runner.the-variants.{Nobody, Job}
 use Rattle.state.specs.declared.Job as Job
-use Rattle.promise.specs.History.{Machine, Call, report, Line, lineOf, lines, stateAfter, start, isAt, isTick, isOwn, stepsGiven, section, isLast, endsAt, isRelease, latest, isThere, endingBy, pendingBy, absentBy, jobBy}
+use Rattle.promise.specs.History.{Machine, Call, release, choose, report, Line, lineOf, lines, stateAfter, start, isAt, isTick, isOwn, stepsGiven, longer, afterCall, section, isLast, endsAt, isRelease, latest, isThere, endingBy, pendingBy, absentBy, jobBy}
 use Rattle.promise.specs.Promise.{Passed, Kept, Promise}
-use Rattle.promise.proofs.History.Counts.{not-worked, has-worked}
-use Rattle.promise.proofs.History.List.{latest-on, there-on}
-use Rattle.promise.proofs.Since.{is-pending}
-use Rattle.firm.specs.Refuted.{allowed}
+use Rattle.promise.proofs.History.Counts.{not-worked, has-worked, same-section, next-section}
+use Rattle.promise.proofs.History.List.{is-pending, latest-on, there-on}
+use Rattle.firm.specs.Refuted.{allowed, inSection}
 use Rattle.firm.proofs.Silly.First.{own-is}
 
 -- what is done has ended
@@ -53,6 +52,35 @@ given-le t k l h = go (isOwn k l) refl
     go : (b : Bool) → isOwn k l ≡ b → stepsGiven t k (l ∷ h) ≤ stepsGiven t k h + allowed k (l .answer .runner) (l .answer .speed)
     go true e = omega (arith, has-worked l h t k e, allowed-own k (l .answer .speed) (l .answer .runner) (both (isTick l) _ e .1))
     go false e = omega (arith, not-worked l h t k e)
+
+-- the section likewise
+section-by : (t : Table) (now k : ℕ) (h : List Line) → inSection (jobBy t now k h .held) ≡ cond (isThere t k h) (inSection (section k (latest k h))) 0
+section-by t now k h = go (isThere t k h)
+  where
+    go : (b : Bool) → inSection (cond b (pendingBy t now k h) (absentBy t k h) .held) ≡ cond b (inSection (section k (latest k h))) 0
+    go true = refl
+    go false = refl
+
+longer-le : (v : ℕ) (x : Held) (call : Call) → inSection (afterCall call (longer v x)) ≤ inSection x + given v
+longer-le v Nothing (release k) = omega arith
+longer-le v (In x) (release k) = omega arith
+longer-le v Nothing choose = omega arith
+longer-le v (In x) choose = omega arith
+longer-le v Nothing (report CarryOn) = omega arith
+longer-le v (In x) (report CarryOn) = omega arith
+longer-le v Nothing (report Done) = omega arith
+longer-le v (In x) (report Done) = omega arith
+longer-le v Nothing (report (Take r)) = omega arith
+longer-le v (In x) (report (Take r)) = omega arith
+longer-le v Nothing (report Give) = omega arith
+longer-le v (In x) (report Give) = omega arith
+
+section-le : (t : Table) (k : ℕ) (l : Line) (h : List Line) → inSection (section k (l ∷ h)) ≤ inSection (section k h) + allowed k (l .answer .runner) (l .answer .speed)
+section-le t k l h = go (isOwn k l) refl
+  where
+    go : (b : Bool) → isOwn k l ≡ b → inSection (section k (l ∷ h)) ≤ inSection (section k h) + allowed k (l .answer .runner) (l .answer .speed)
+    go true e = omega (arith, ap inSection (next-section l h t k e), longer-le (l .answer .speed) (section k h) (l .call), allowed-own k (l .answer .speed) (l .answer .runner) (both (isTick l) _ e .1))
+    go false e = omega (arith, ap inSection (same-section l h t k e))
 
 module _ (m : Machine) where
   -- a job that is done
@@ -115,3 +143,23 @@ module _ (m : Machine) where
         go true e =
             let there = both (isThere t k before) (not (endsAt t k l (latest k before))) (sym (there-on l before k t refl) ∙ e) .0 in
             omega (arith, more, steps-after true e, steps-before there, given-le t k l (latest k before))
+
+    section-before : isThere t k before ≡ true → inSection (jobAt was k .held) ≡ inSection (section k (latest k before))
+    section-before e =
+        ap (λ (j : Job.Job). inSection (j .held)) (keeps .kept t passed now small calls .inTheState k) ∙ section-by t (was .tick .0) k before
+        ∙ ap (λ (b : Bool). cond b (inSection (section k (latest k before))) 0) e
+
+    section-after : (b : Bool) → isThere t k (l ∷ before) ≡ b → inSection (jobAt (l .answer .state) k .held) ≡ cond b (inSection (section k (l ∷ latest k before))) 0
+    unfolding lines
+    section-after b e =
+        ap (λ (j : Job.Job). inSection (j .held)) (keeps .kept t passed now small (report said ∷ calls) .inTheState k) ∙ section-by t (l .answer .state .tick .0) k (l ∷ before)
+        ∙ ap (λ (b : Bool). cond b (inSection (section k (latest k (l ∷ before)))) 0) e ∙ ap (λ (x : List Line). cond b (inSection (section k x)) 0) (latest-on l before k refl)
+
+    pub none-longer : inSection (jobAt was k .held) + allowed k (l .answer .runner) (l .answer .speed) < inSection (jobAt (l .answer .state) k .held) → ⊥
+    none-longer more = go (isThere t k (l ∷ before)) refl
+      where
+        go : (b : Bool) → isThere t k (l ∷ before) ≡ b → ⊥
+        go false e = omega (arith, more, section-after false e)
+        go true e =
+            let there = both (isThere t k before) (not (endsAt t k l (latest k before))) (sym (there-on l before k t refl) ∙ e) .0 in
+            omega (arith, more, section-after true e, section-before there, section-le t k l (latest k before))

@@ -8,10 +8,12 @@ use native.Mathlib.Decide.{decLt}
 use native.Mathlib.Omega.{arith}
 use Rattle.units.specs.Clock.{distance}
 use Rattle.table.specs.declared.Table.{Table}
+use Rattle.table.specs.Table.{D, ceiling, ceilings}
 use Rattle.state.specs.declared.Answer.{Answer}
 use Rattle.state.specs.declared.Section.{Section}
 use Rattle.state.specs.declared.Held.{Held}
 use Rattle.state.specs.declared.Held.the-variants.{Nothing, In}
+use Rattle.state.specs.declared.Mark.the-variants.{Absent}
 use Rattle.state.specs.declared.Mode.the-variants.{Independent}
 use Rattle.state.specs.declared.Runner.the-variants as Runs
 use Rattle.state.specs.declared.State.{State}
@@ -19,17 +21,17 @@ use Rattle.state.specs.State.{jobAt}
 use Rattle.state.specs.Order.{placeAt, positionOf, noPlace, isPending, isStarted}
 use Rattle.state.proofs.Laws.Order.{first-le, nearer-first, lower-first}
 use Rattle.choice.specs.declared.Turn.{Turn}
-use Rattle.choice.specs.Choice.{top, blocked, runner, turn, choice}
-use Rattle.choice.proofs.Laws.Bars.{bars-held}
+use Rattle.choice.specs.Choice.{top, bars, blocked, runner, turn, choice}
+use Rattle.choice.proofs.Laws.Bars.{bars-held, bars-holds}
 use Rattle.choice.proofs.Laws.Choice as Law
-use Rattle.choice.proofs.Laws.Ready.{blocked-tells}
+use Rattle.choice.proofs.Laws.Ready.{blocked-tells, blocked-holds, runs-started}
 use Rattle.choice.proofs.Laws.Runner.{nobody, runner-free, runner-blocked}
 use Rattle.machine.specs.Machine.{chosen}
 use Rattle.promise.specs.History.{written, Line, choose, answered, isReport, isChoice, section, hasStarted, latest, isThere, ticksLeft, Ahead}
 use Rattle.promise.specs.Promise.{Passed}
 use Rattle.promise.proofs.Edge.Choice as Chosen
 use Rattle.promise.proofs.Edge.Invariant.{passes, Good, is-ready, some-top}
-use Rattle.promise.proofs.Edge.View.{below-16}
+use Rattle.promise.proofs.Edge.View.{inside, below-16, takes-8}
 use Rattle.promise.proofs.Keep.Made.{Made, refused, takes-on, chooses, idles, runs}
 use Rattle.promise.proofs.Keep.Each.{keep}
 use Rattle.promise.proofs.History.Listed.{Listed}
@@ -67,15 +69,16 @@ module _ {t : Table} {passed : Passed written t} {s : State} (good : Good passed
       none-there k false q = q
       none-there k true q = absurd (omega (arith, none-top, some-top good k (pending-is good listed k ∙ q)))
 
-      pub idle-is : ((k : ℕ) → isThere t k h ≡ false) × (a .mode ≡ Independent) × (a .speed ≡ 0)
+      pub idle-is : ((k : ℕ) → isThere t k h ≡ false) × (a .mode ≡ Independent) × (a .speed ≡ 0) × (a .state .mark ≡ Absent)
       idle-is = (
         λ k. none-there k (isThere t k h) refl,
         its (λ b. b .mode) (λ u. u .mode) refl ∙ ap (λ (u : Turn). u .mode) (Law.idle-turn t s none-top),
         its (λ b. b .speed) (λ u. u .speed) refl ∙ ap (λ (u : Turn). u .speed) (Law.idle-turn t s none-top),
+        ap (λ (b : Answer). b .state .mark) chose ∙ ap (λ (x : State). x .mark) (Law.choice-is t s) ∙ ap (λ (u : Turn). u .mark) (Law.idle-turn t s none-top),
       )
 
-    -- a job that is ahead of the one that is named has not started, and some job holds a resource
-    module _ (k j : ℕ) (named : a .runner ≡ Runs.Job k) (there-j : isThere t j h ≡ true) (ahead : Ahead t h j k) where
+    -- a job
+    module _ (k : ℕ) (named : a .runner ≡ Runs.Job k) where
       runs-k : turn t s .runner ≡ Runs.Job k
       runs-k = sym (its (λ b. b .runner) (λ u. u .runner) refl) ∙ named
 
@@ -89,43 +92,71 @@ module _ {t : Table} {passed : Passed written t} {s : State} (good : Good passed
       same : positionOf (runner t s) ≡ k
       same = Chosen.runs-at good some k runs-k
 
-      pending-j : jobAt s j .pending ≡ true
-      pending-j = pending-is good listed j ∙ there-j
-
       pending-k : jobAt s k .pending ≡ true
       pending-k = ap (λ (i : ℕ). jobAt s i .pending) (sym same) ∙ Law.runner-pending t s (is-ready good) some
 
-      small : j < 16
-      small = below-16 (passes passed) (good .stands) j pending-j
+      -- one that starts: what another holds has a ceiling longer than its D
+      module _ (fresh : hasStarted k (latest k h) ≡ false) (i : ℕ) (x : Section) (other : i ≡ k → ⊥) (there-i : isThere t i h ≡ true) (e : section i (latest i h) ≡ In x) where
+        unstarted-k : jobAt s k .started ≡ false
+        unstarted-k = tells good listed k pending-k .started ∙ fresh
 
-      near : (i : ℕ) → jobAt s i .pending ≡ true → distance (s .tick .0) (jobAt s i .deadline .0) ≡ ticksLeft t i h
-      near i p = omega (arith, tells good listed i p .near)
+        pending-i : jobAt s i .pending ≡ true
+        pending-i = pending-is good listed i ∙ there-i
 
-      nearer : Ahead t h j k → placeAt s j < placeAt s k
-      nearer (inl w) =
-          nearer-first (s .tick .0) (jobAt s j .deadline .0) (jobAt s k .deadline .0) j k (omega (arith, small)) (omega (arith, near j pending-j, near k pending-k, w))
-      nearer (inr w) = lower-first (s .tick .0) (jobAt s j .deadline .0) (jobAt s k .deadline .0) j k (w .1) (near j pending-j ∙ w .0 ∙ sym (near k pending-k))
+        held-i : jobAt s i .held ≡ In x
+        held-i = tells good listed i pending-i .held ∙ e
 
-      run-is : runner t s ≡ placeAt s k
-      run-is = Law.runner-place t s (is-ready good) some ∙ ap (placeAt s) same
+        one-of-8 : x .resource < 8
+        one-of-8 =
+            takes-8 (passes passed) (good .stands) (λ j m. passed .limits j (omega (arith, passes passed .count .high)) m) i (inside (passes passed) (good .stands) i pending-i) x held-i
 
-      unstarted : blocked t s (positionOf (top s)) ≡ true → (b : Bool) → jobAt s j .started ≡ b → jobAt s j .started ≡ false
-      unstarted e false f = f
-      unstarted e true f = absurd (omega (arith, first-le s isStarted j small (rw (pending-j, f) refl), runner-blocked t s e, run-is, nearer ahead))
+        pub starts-free : D t k < ceiling t (x .resource)
+        starts-free = go (blocked t s (positionOf (top s))) refl (decLt (D t k) (ceiling t (x .resource)))
+          where
+            go : (b : Bool) → blocked t s (positionOf (top s)) ≡ b → Dec (D t k < ceiling t (x .resource)) → D t k < ceiling t (x .resource)
+            go b f (yes l) = l
+            go true f (no l) = absurd (false≢true (sym unstarted-k ∙ ap (λ (p : ℕ). jobAt s p .started) (sym same) ∙ runs-started t s (is-ready good) some f))
+            go false f (no l) =
+                let first : positionOf (top s) ≡ k = ap positionOf (sym (runner-free t s f)) ∙ same in
+                let barred : bars (ceilings t) (D t k) (jobAt s i .held) ≡ true = ap (bars (ceilings t) (D t k)) held-i ∙ bars-holds t (D t k) x one-of-8 (omega arith) in
+                absurd (false≢true (sym (sym (ap (blocked t s) first) ∙ f) ∙ blocked-holds t s k unstarted-k i (below-16 (passes passed) (good .stands) i pending-i, barred, pending-i, other)))
 
-      in-section : (i : ℕ) (x : Held) → section i (latest i h) ≡ x → (x ≡ Nothing → ⊥) → (y : Section) × (section i (latest i h) ≡ In y)
-      in-section i Nothing e holds = absurd (holds refl)
-      in-section i (In y) e holds = (y, e)
+      -- one that is ahead of it has not started, and some job holds a resource
+      module _ (j : ℕ) (there-j : isThere t j h ≡ true) (ahead : Ahead t h j k) where
+        pending-j : jobAt s j .pending ≡ true
+        pending-j = pending-is good listed j ∙ there-j
 
-      pub in-order : (hasStarted j (latest j h) ≡ false) × ((i : ℕ) × (x : Section) × (isThere t i h ≡ true) × (section i (latest i h) ≡ In x))
-      in-order = go (blocked t s (positionOf (top s))) refl
-        where
-          go : (b : Bool) → blocked t s (positionOf (top s)) ≡ b
-              → (hasStarted j (latest j h) ≡ false) × ((i : ℕ) × (x : Section) × (isThere t i h ≡ true) × (section i (latest i h) ≡ In x))
-          go false e = absurd (omega (arith, first-le s isPending j small pending-j, runner-free t s e, run-is, nearer ahead))
-          go true e =
-              let w = blocked-tells t s (positionOf (top s)) e .1 in
-              let i = w .0 in
-              let pending-i = w .1 .2 in
-              let y = in-section i (section i (latest i h)) refl (λ z. bars-held _ _ _ (w .1 .1) (tells good listed i pending-i .held ∙ z)) in
-              (sym (tells good listed j pending-j .started) ∙ unstarted e (jobAt s j .started) refl, (i, y .0, sym (pending-is good listed i) ∙ pending-i, y .1))
+        small : j < 16
+        small = below-16 (passes passed) (good .stands) j pending-j
+
+        near : (i : ℕ) → jobAt s i .pending ≡ true → distance (s .tick .0) (jobAt s i .deadline .0) ≡ ticksLeft t i h
+        near i p = omega (arith, tells good listed i p .near)
+
+        nearer : Ahead t h j k → placeAt s j < placeAt s k
+        nearer (inl w) =
+            nearer-first (s .tick .0) (jobAt s j .deadline .0) (jobAt s k .deadline .0) j k (omega (arith, small)) (omega (arith, near j pending-j, near k pending-k, w))
+        nearer (inr w) = lower-first (s .tick .0) (jobAt s j .deadline .0) (jobAt s k .deadline .0) j k (w .1) (near j pending-j ∙ w .0 ∙ sym (near k pending-k))
+
+        run-is : runner t s ≡ placeAt s k
+        run-is = Law.runner-place t s (is-ready good) some ∙ ap (placeAt s) same
+
+        unstarted : blocked t s (positionOf (top s)) ≡ true → (b : Bool) → jobAt s j .started ≡ b → jobAt s j .started ≡ false
+        unstarted e false f = f
+        unstarted e true f = absurd (omega (arith, first-le s isStarted j small (rw (pending-j, f) refl), runner-blocked t s e, run-is, nearer ahead))
+
+        in-section : (i : ℕ) (x : Held) → section i (latest i h) ≡ x → (x ≡ Nothing → ⊥) → (y : Section) × (section i (latest i h) ≡ In y)
+        in-section i Nothing e holds = absurd (holds refl)
+        in-section i (In y) e holds = (y, e)
+
+        pub in-order : (hasStarted j (latest j h) ≡ false) × ((i : ℕ) × (x : Section) × (isThere t i h ≡ true) × (section i (latest i h) ≡ In x))
+        in-order = go (blocked t s (positionOf (top s))) refl
+          where
+            go : (b : Bool) → blocked t s (positionOf (top s)) ≡ b
+                → (hasStarted j (latest j h) ≡ false) × ((i : ℕ) × (x : Section) × (isThere t i h ≡ true) × (section i (latest i h) ≡ In x))
+            go false e = absurd (omega (arith, first-le s isPending j small pending-j, runner-free t s e, run-is, nearer ahead))
+            go true e =
+                let w = blocked-tells t s (positionOf (top s)) e .1 in
+                let i = w .0 in
+                let pending-i = w .1 .2 in
+                let y = in-section i (section i (latest i h)) refl (λ z. bars-held _ _ _ (w .1 .1) (tells good listed i pending-i .held ∙ z)) in
+                (sym (tells good listed j pending-j .started) ∙ unstarted e (jobAt s j .started) refl, (i, y .0, sym (pending-is good listed i) ∙ pending-i, y .1))
