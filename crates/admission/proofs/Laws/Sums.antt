@@ -76,7 +76,7 @@ module _ (t : Table) (l : List Steps) where
     unfolding synchronizationSum
     whole = ap₂ (λ (z s : ℕ). z + s) (waits ∙ ap (λ (b : ℕ). ticksInRound b (S t i) (t .round) (D t i)) (w .blocks i inside)) next
 
-  -- (the test stands first, since `search` learns from it what x, y and z are)
+  -- (the test stands first: it says what x, y and z are)
   module _ {x y z i : ℕ} where
     pub summed-above : t .round < z + (x + y) → Summed x i → y ≡ work t i → z ≡ ticksInRound (getD l i (steps 0) .0) (S t i) (t .round) (D t i) → i < t .count
         → Synchronization i ≡ first (overloaded t) Synchronization Passed (t .count)

@@ -19,7 +19,7 @@ unfolding event
 returns c =
     let r = c .before .before .before .record .ensures in
     let one = sym (rw r at (c .before .before .byte .ensures)) ∙ c .before .if1 .taken in
-    rw (eq-eqb _ _ one, ← r, ← c .byte2 .ensures)
+    rw (eq-eqb _ _ one, c .byte2 .ensures, r)
 
 byte-requires-3 : tie.Need-byte-requires-3
 byte-requires-3 c κs = search needs

@@ -11,7 +11,7 @@ long-requires c κs = search needs
 
 returns : tie.Need-returns
 unfolding start
-returns c = rw (← c .before .record .ensures, ← c .long .ensures)
+returns c = rw (c .long .ensures, c .before .record .ensures)
 
 pub start-spec : {M : Type 1} → statement M
 start-spec = tie.close (tie.spec record-requires long-requires returns)

@@ -44,7 +44,7 @@ add-if1 : tie.Need-add-if1 Inv-loop μ-loop
 add-if1 c = search needs
 
 returns : tie.Need-returns Inv-loop μ-loop
-returns c = search summed-above
+returns c = summed-above _ _ (c .if1 .taken) (c .before .before .before .before .before .before .loop .inv) (c .before .before .ticks-in-round .ensures .0) (search needs) (search needs)
 
 add-i : tie.Need-add-i Inv-loop μ-loop
 add-i c = search needs
@@ -53,7 +53,7 @@ loop-less : tie.Need-loop-less Inv-loop μ-loop
 loop-less c = search needs
 
 loop-again : tie.Need-loop-again Inv-loop μ-loop
-loop-again c = search summed-next
+loop-again c = summed-next _ _ (c .if1 .left) (c .before .before .before .before .before .before .loop .inv) (c .before .before .ticks-in-round .ensures .0) (search needs) (search needs) (search needs)
 
 returns-2 : tie.Need-returns-2 Inv-loop μ-loop
 returns-2 c = search summed-end

@@ -15,7 +15,7 @@ returns : tie.Need-returns
 returns c = search needs
 
 returns-2 : tie.Need-returns-2
-returns-2 c = cc
+returns-2 c = rw (c .before .before .ceiling .ensures, c .before .before .before .before .held .given .1)
 
 pub bars-spec : {M : Type 1} → statement M
 bars-spec = tie.close (tie.spec enum-told enum-known-held ceiling-requires returns returns-2)

@@ -31,14 +31,14 @@ returns : tie.Need-returns
 unfolding listed over
 returns c =
     rw (
-      ← c .before .before .before .before .before .before .before .word .ensures,
-      ← c .before .before .before .before .before .before .word2 .ensures,
-      ← c .before .before .before .before .before .word3 .ensures,
-      ← c .before .before .before .before .word4 .ensures,
-      ← c .before .before .before .word5 .ensures,
-      ← c .before .before .word6 .ensures,
-      ← c .before .word7 .ensures,
-      ← c .word8 .ensures,
+      c .before .before .before .before .before .before .before .word .ensures,
+      c .before .before .before .before .before .before .word2 .ensures,
+      c .before .before .before .before .before .word3 .ensures,
+      c .before .before .before .before .word4 .ensures,
+      c .before .before .before .word5 .ensures,
+      c .before .before .word6 .ensures,
+      c .before .word7 .ensures,
+      c .word8 .ensures,
     )
 
 pub limits-spec : {M : Type 1} → statement M

@@ -25,12 +25,12 @@ returns : tie.Need-returns
 unfolding task
 returns c =
     rw (
-      ← c .before .before .before .before .before .word .ensures,
-      ← c .before .before .before .before .word2 .ensures,
-      ← c .before .before .before .word3 .ensures,
-      ← c .before .before .byte .ensures,
-      ← c .before .byte2 .ensures,
-      ← c .limits .ensures,
+      c .before .before .before .before .before .word .ensures,
+      c .before .before .before .before .word2 .ensures,
+      c .before .before .before .word3 .ensures,
+      c .before .before .byte .ensures,
+      c .before .byte2 .ensures,
+      c .limits .ensures,
     )
 
 pub task-spec : {M : Type 1} → statement M

@@ -9,11 +9,11 @@ returns c = rw (lt-leb _ _ (c .if1 .taken))
 
 returns-2 : tie.Need-returns-2
 unfolding sized
-returns-2 c = rw (le-leb _ _ (c .before .if1 .left), lt-leb _ _ (c .if2 .taken))
+returns-2 c = rw (le-leb _ _ (c .before .if1 .left), lt-leb _ 65536 (c .if2 .taken))
 
 returns-3 : tie.Need-returns-3
 unfolding sized
-returns-3 c = rw (le-leb _ _ (c .before .if1 .left), le-leb _ _ (c .if2 .left))
+returns-3 c = rw (le-leb _ _ (c .before .if1 .left), le-leb _ 65536 (c .if2 .left))
 
 pub sized-spec : {M : Type 1} → statement M
 sized-spec = tie.close (tie.spec returns returns-2 returns-3)

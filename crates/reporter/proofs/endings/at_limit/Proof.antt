@@ -15,7 +15,7 @@ returns : tie.Need-returns
 returns c = search needs
 
 returns-2 : tie.Need-returns-2
-returns-2 c = cc
+returns-2 c = rw (c .before .before .limit .ensures, c .before .before .before .before .held .given .1)
 
 pub at-limit-spec : {M : Type 1} → statement M
 at-limit-spec = tie.close (tie.spec enum-told enum-known-held limit-requires returns returns-2)
