@@ -54,10 +54,14 @@ module _ (t : Table) (s : State) where
   unfolding turn
   turn-idle l = simp (le-ltb _ _ l)
 
+  -- where somebody runs, there is a top
+  pub runs-top : (p : ℕ) → turn t s .runner ≡ Runs.Job p → top s < noPlace
+  runs-top p e = go (decLt (top s) noPlace)
+    where
+      go : Dec (top s < noPlace) → top s < noPlace
+      go (yes l) = l
+      go (no l) = absurd (nobody (sym (ap (λ (u : Turn). u .runner) (turn-idle (omega arith))) ∙ e))
+
   -- whoever runs is at a position below 16
   pub runner-below : (p : ℕ) → turn t s .runner ≡ Runs.Job p → p < 16
-  runner-below p e = go (decLt (top s) noPlace)
-    where
-      go : Dec (top s < noPlace) → p < 16
-      go (yes l) = rw (named (sym e ∙ ap (λ (u : Turn). u .runner) (turn-runs l) ∙ rules-runner t s (runner t s))) runner-position
-      go (no l) = absurd (nobody (sym (ap (λ (u : Turn). u .runner) (turn-idle (omega arith))) ∙ e))
+  runner-below p e = rw (named (sym e ∙ ap (λ (u : Turn). u .runner) (turn-runs (runs-top p e)) ∙ rules-runner t s (runner t s))) runner-position

@@ -113,8 +113,10 @@ module _ (m : Machine) where
           keeps .kept t passed now small calls .saysEnding (report Done) ∙ ap (endingBy t h (lineOf m t s (report Done))) runs
           ∙ ap (λ (b : Bool). cond b 1 0) (done-ends t k (lineOf m t s (report Done)) (latest k h) refl own)
 
-  -- a report leaves no job with steps that no tick gave it
-  module _ (t : Table) (passed : Passed m t) (now : ℕ) (small : now < 2 ^ 32) (calls : List Call) (said : Report) (k : ℕ) (keeps : Promise m) where
+  -- a report leaves no job with steps that no tick gave it: whatever is read off a job, if the lines tell it and one line more adds no more to it than is allowed
+  module _ (t : Table) (passed : Passed m t) (now : ℕ) (small : now < 2 ^ 32) (calls : List Call) (said : Report) (k : ℕ) (keeps : Promise m)
+      (read : Job.Job → ℕ) (told : List Line → ℕ) (read-by : (now : ℕ) (h : List Line) → read (jobBy t now k h) ≡ cond (isThere t k h) (told (latest k h)) 0)
+      (grows : (l : Line) (h : List Line) → told (l ∷ h) ≤ told h + allowed k (l .answer .runner) (l .answer .speed)) where
     abbrev was : State
     was = stateAfter m t (start m t now) calls
 
@@ -124,42 +126,27 @@ module _ (m : Machine) where
     abbrev l : Line
     l = lineOf m t was (report said)
 
-    steps-before : isThere t k before ≡ true → jobAt was k .used .0 ≡ stepsGiven t k (latest k before)
-    steps-before e =
-        ap (λ (j : Job.Job). j .used .0) (keeps .kept t passed now small calls .inTheState k) ∙ used-by t (was .tick .0) k before
-        ∙ ap (λ (b : Bool). cond b (stepsGiven t k (latest k before)) 0) e
+    read-before : isThere t k before ≡ true → read (jobAt was k) ≡ told (latest k before)
+    read-before e = ap read (keeps .kept t passed now small calls .inTheState k) ∙ read-by (was .tick .0) before ∙ ap (λ (b : Bool). cond b (told (latest k before)) 0) e
 
-    steps-after : (b : Bool) → isThere t k (l ∷ before) ≡ b → jobAt (l .answer .state) k .used .0 ≡ cond b (stepsGiven t k (l ∷ latest k before)) 0
+    read-after : (b : Bool) → isThere t k (l ∷ before) ≡ b → read (jobAt (l .answer .state) k) ≡ cond b (told (l ∷ latest k before)) 0
     unfolding lines
-    steps-after b e =
-        ap (λ (j : Job.Job). j .used .0) (keeps .kept t passed now small (report said ∷ calls) .inTheState k) ∙ used-by t (l .answer .state .tick .0) k (l ∷ before)
-        ∙ ap (λ (b : Bool). cond b (stepsGiven t k (latest k (l ∷ before))) 0) e ∙ ap (λ (x : List Line). cond b (stepsGiven t k x) 0) (latest-on l before k refl)
+    read-after b e =
+        ap read (keeps .kept t passed now small (report said ∷ calls) .inTheState k) ∙ read-by (l .answer .state .tick .0) (l ∷ before)
+        ∙ ap (λ (b : Bool). cond b (told (latest k (l ∷ before))) 0) e ∙ ap (λ (x : List Line). cond b (told x) 0) (latest-on l before k refl)
 
-    pub none-added : jobAt was k .used .0 + allowed k (l .answer .runner) (l .answer .speed) < jobAt (l .answer .state) k .used .0 → ⊥
-    none-added more = go (isThere t k (l ∷ before)) refl
+    none-more : read (jobAt was k) + allowed k (l .answer .runner) (l .answer .speed) < read (jobAt (l .answer .state) k) → ⊥
+    none-more more = go (isThere t k (l ∷ before)) refl
       where
         go : (b : Bool) → isThere t k (l ∷ before) ≡ b → ⊥
-        go false e = omega (arith, more, steps-after false e)
+        go false e = omega (arith, more, read-after false e)
         go true e =
             let there = both (isThere t k before) (not (endsAt t k l (latest k before))) (sym (there-on l before k t refl) ∙ e) .0 in
-            omega (arith, more, steps-after true e, steps-before there, given-le t k l (latest k before))
+            omega (arith, more, read-after true e, read-before there, grows l (latest k before))
 
-    section-before : isThere t k before ≡ true → inSection (jobAt was k .held) ≡ inSection (section k (latest k before))
-    section-before e =
-        ap (λ (j : Job.Job). inSection (j .held)) (keeps .kept t passed now small calls .inTheState k) ∙ section-by t (was .tick .0) k before
-        ∙ ap (λ (b : Bool). cond b (inSection (section k (latest k before))) 0) e
+  module _ (t : Table) (passed : Passed m t) (now : ℕ) (small : now < 2 ^ 32) (calls : List Call) (said : Report) (k : ℕ) (keeps : Promise m) where
+    pub none-added : let s = stateAfter m t (start m t now) calls in let a = m .report t s said in jobAt s k .used .0 + allowed k (a .runner) (a .speed) < jobAt (a .state) k .used .0 → ⊥
+    none-added = none-more t passed now small calls said k keeps (λ j. j .used .0) (stepsGiven t k) (λ now h. used-by t now k h) (given-le t k)
 
-    section-after : (b : Bool) → isThere t k (l ∷ before) ≡ b → inSection (jobAt (l .answer .state) k .held) ≡ cond b (inSection (section k (l ∷ latest k before))) 0
-    unfolding lines
-    section-after b e =
-        ap (λ (j : Job.Job). inSection (j .held)) (keeps .kept t passed now small (report said ∷ calls) .inTheState k) ∙ section-by t (l .answer .state .tick .0) k (l ∷ before)
-        ∙ ap (λ (b : Bool). cond b (inSection (section k (latest k (l ∷ before)))) 0) e ∙ ap (λ (x : List Line). cond b (inSection (section k x)) 0) (latest-on l before k refl)
-
-    pub none-longer : inSection (jobAt was k .held) + allowed k (l .answer .runner) (l .answer .speed) < inSection (jobAt (l .answer .state) k .held) → ⊥
-    none-longer more = go (isThere t k (l ∷ before)) refl
-      where
-        go : (b : Bool) → isThere t k (l ∷ before) ≡ b → ⊥
-        go false e = omega (arith, more, section-after false e)
-        go true e =
-            let there = both (isThere t k before) (not (endsAt t k l (latest k before))) (sym (there-on l before k t refl) ∙ e) .0 in
-            omega (arith, more, section-after true e, section-before there, section-le t k l (latest k before))
+    pub none-longer : let s = stateAfter m t (start m t now) calls in let a = m .report t s said in inSection (jobAt s k .held) + allowed k (a .runner) (a .speed) < inSection (jobAt (a .state) k .held) → ⊥
+    none-longer = none-more t passed now small calls said k keeps (λ j. inSection (j .held)) (λ h. inSection (section k h)) (λ now h. section-by t now k h) (section-le t k)

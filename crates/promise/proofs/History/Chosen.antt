@@ -25,7 +25,7 @@ use Rattle.choice.specs.Choice.{top, bars, blocked, runner, turn, choice}
 use Rattle.choice.proofs.Laws.Bars.{bars-held, bars-holds}
 use Rattle.choice.proofs.Laws.Choice as Law
 use Rattle.choice.proofs.Laws.Ready.{blocked-tells, blocked-holds, runs-started}
-use Rattle.choice.proofs.Laws.Runner.{nobody, runner-free, runner-blocked}
+use Rattle.choice.proofs.Laws.Runner.{runs-top, nobody, runner-free, runner-blocked}
 use Rattle.machine.specs.Machine.{chosen}
 use Rattle.promise.specs.History.{written, Line, choose, answered, isReport, isChoice, section, hasStarted, latest, isThere, ticksLeft, Ahead}
 use Rattle.promise.specs.Promise.{Passed}
@@ -83,11 +83,7 @@ module _ {t : Table} {passed : Passed written t} {s : State} (good : Good passed
       runs-k = sym (its (λ b. b .runner) (λ u. u .runner) refl) ∙ named
 
       some : top s < noPlace
-      some = go (decLt (top s) noPlace)
-        where
-          go : Dec (top s < noPlace) → top s < noPlace
-          go (yes l) = l
-          go (no l) = absurd (nobody (sym (ap (λ (u : Turn). u .runner) (Law.idle-turn t s (omega arith))) ∙ runs-k))
+      some = runs-top t s k runs-k
 
       same : positionOf (runner t s) ≡ k
       same = Chosen.runs-at good some k runs-k

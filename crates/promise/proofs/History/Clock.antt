@@ -1,11 +1,12 @@
 -- The state's tick is the start's, and the closed ticks on. Assumes nothing.
-use Prim.Native.Nat.{ℕ, _+_, _^_, _<_}
+use Prim.Native.Nat.{ℕ, _^_, _<_}
 use mathlib.Core.Path.{_≡_, sym, ap, _∙_}
 use mathlib.Core.Bool.{true, false}
 use mathlib.Core.List.{List, [], _∷_}
 use native.Mathlib.Omega.{arith}
 use Rattle.units.specs.declared.Tick.{Tick}
 use Rattle.units.specs.Clock.{tick, after}
+use Rattle.units.proofs.Laws.Clock.{after-none, after-more}
 use Rattle.table.specs.declared.Table.{Table}
 use Rattle.state.specs.declared.Answer.{Answer}
 use Rattle.state.specs.declared.Report.the-variants.{CarryOn}
@@ -18,14 +19,6 @@ use Rattle.promise.proofs.Keep.Made.{Made, refused, takes-on, chooses, 
 use Rattle.promise.proofs.History.Counts.{no-tick, one-tick}
 use Rattle.promise.proofs.History.Tells.{line, no-number}
 use Rattle.promise.proofs.History.Start.{start-is, at, history, made}
-
-after-none : (now : ℕ) → now < 2 ^ 32 → after now 0 ≡ now
-unfolding after
-after-none now small = omega arith
-
-after-more : (now n : ℕ) → after (after now n) 1 ≡ after now (n + 1)
-unfolding after
-after-more now n = omega arith
 
 module _ (now : ℕ) (s : State) (h : List Line) (was : s .tick ≡ tick (after now (ticksClosed h))) where
   abbrev Ticks : Call → Answer → Type 0

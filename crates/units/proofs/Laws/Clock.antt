@@ -1,5 +1,5 @@
 -- Laws of the tick counter, at the roll-over and away from it. Assumes nothing.
-use Prim.Native.Nat.{ℕ, _-_, _%_, _^_, _≤_, _<_}
+use Prim.Native.Nat.{ℕ, _+_, _-_, _%_, _^_, _≤_, _<_}
 use mathlib.Core.Path.{_≡_}
 use native.Mathlib.Omega.{arith}
 use Rattle.units.specs.Clock.{after, distance}
@@ -8,6 +8,14 @@ use Rattle.units.specs.Clock.{after, distance}
 pub after-turns : (now n : ℕ) → after now (n % 2 ^ 32) ≡ after now n
 unfolding after
 after-turns now n = omega arith
+
+pub after-none : (now : ℕ) → now < 2 ^ 32 → after now 0 ≡ now
+unfolding after
+after-none now small = omega arith
+
+pub after-more : (now n : ℕ) → after (after now n) 1 ≡ after now (n + 1)
+unfolding after
+after-more now n = omega arith
 
 pub after-lt : (now n : ℕ) → after now n < 2 ^ 32
 unfolding after
