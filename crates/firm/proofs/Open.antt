@@ -1,7 +1,9 @@
 -- What the promise leaves open. Assumes nothing.
 mod Blank
+mod Named
 use Prim.Native.Nat.{ℕ, _^_, _<_}
-use mathlib.Core.Path.{_≡_, refl, sym, ap, _∙_}
+use mathlib.Core.Path.{_≡_, refl, sym, ap, _∙_, subst}
+use mathlib.Core.Bool.{false≢true}
 use mathlib.Core.List.{List, [], _∷_}
 use mathlib.Core.Option.{Option, none, some}
 use native.Mathlib.Decide.{ℕ-discrete}
@@ -9,11 +11,14 @@ use Rattle.units.specs.Clock.{tick, after}
 use Rattle.table.specs.declared.Table.{Table}
 use Rattle.state.specs.declared.State.{State}
 use Rattle.state.specs.declared.Answer.{Answer}
+use Rattle.state.specs.declared.Runner.{Runner}
+use Rattle.state.specs.declared.Runner.the-variants.{Nobody, Job}
 use Rattle.state.specs.State.{empty, jobAt}
 use Rattle.state.specs.Answers.{bare}
 use Rattle.promise.specs.History.{Machine, Line, lineOf, lines, stateAfter, Call, release, choose, report, answered, start, ticksClosed, standing, numberBy, endingBy, jobBy, halfBy, runnerBy}
 use Rattle.promise.specs.Promise.{Passed, Kept, Promise}
-use Rattle.firm.specs.Open.{Told, Same, Determined}
+use Rattle.firm.specs.Open.{SameSpeed, Told, Same, Determined}
+use Rattle.firm.proofs.Open.Named as Named
 use Rattle.firm.proofs.Open.Blank as Blank
 use Rattle.firm.proofs.Open.Blank.{blank, blanks}
 
@@ -37,7 +42,8 @@ which (some c) = c
 
 -- two places of two machines, with the same lines but for the states and the endings
 module _ (m n : Machine) (t : Table) (now : ℕ) (s r : State) (h g : List Line) (km : Kept m t now s h) (kn : Kept n t now r g) (e : blanks h ≡ blanks g)
-    (alike : Told (answered m t s choose) (answered n t r choose)) where
+    (next-m : Kept m t now (answered m t s choose .state) (lineOf m t s choose ∷ h)) (next-n : Kept n t now (answered n t r choose .state) (lineOf n t r choose ∷ g))
+    (alike : SameSpeed (answered m t s choose) (answered n t r choose)) where
   pub same-number : (call : Call) → answered m t s call .number ≡ answered n t r call .number
   same-number call =
       km .byTheList call ∙ sym (Blank.blank-number t h call) ∙ ap (λ (x : List Line). numberBy t x (standing x) call) e
@@ -48,9 +54,21 @@ module _ (m n : Machine) (t : Table) (now : ℕ) (s r : State) (h g : List Line)
       let w : blank c ≡ blank d = ap which (sym (Blank.blank-standing h ∙ ap (Blank.blankChoice) ec) ∙ ap standing e ∙ Blank.blank-standing g ∙ ap (Blank.blankChoice) ed) in
       record { runner = ap (λ (a : Answer). a .runner) w; mode = ap (λ (a : Answer). a .mode) w; speed = ap (λ (a : Answer). a .speed) w }
 
+  -- both choices name one job, or nobody
+  same-named : answered m t s choose .number ≡ 0 → answered n t r choose .number ≡ 0 → (p : Runner) → answered m t s choose .runner ≡ p → (q : Runner) → answered n t r choose .runner ≡ q
+      → answered m t s choose .runner ≡ answered n t r choose .runner
+  same-named z y Nobody f Nobody f' = f ∙ sym f'
+  same-named z y Nobody f (Job l) f' =
+      absurd (false≢true (sym (km .idlesAlone z f .0 l) ∙ ap (λ (x : Named.View). x .there l) (Named.same-view t h g e) ∙ Named.is-named n t now r g kn next-n y l f' .there))
+  same-named z y (Job k) f Nobody f' =
+      absurd (false≢true (sym (kn .idlesAlone y f' .0 k) ∙ sym (ap (λ (x : Named.View). x .there k) (Named.same-view t h g e)) ∙ Named.is-named m t now s h km next-m z k f .there))
+  same-named z y (Job k) f (Job l) f' =
+      let mine = subst (λ (x : Named.View). Named.Named t x k) (Named.same-view t h g e) (Named.is-named m t now s h km next-m z k f) in
+      f ∙ ap Job (Named.one-runner t (Named.viewOf t g) k l mine (Named.is-named n t now r g kn next-n y l f')) ∙ sym f'
+
   taken : (call : Call) → answered m t s call .number ≡ 0 → answered n t r call .number ≡ 0 → Told (answered m t s call) (answered n t r call)
   taken (release k) z y = let p = answered m t s (release k) in let q = answered n t r (release k) in bares (p .number) (q .number) (p .state) (q .state) (km .releasedBare k) (kn .releasedBare k)
-  taken choose z y = alike
+  taken choose z y = record { runner = same-named z y (answered m t s choose .runner) refl (answered n t r choose .runner) refl; mode = alike .mode; speed = alike .speed }
   taken (report said) z y =
       let (c, ec, rc, mc, vc) = km .asChosen said z in
       let (d, ed, rd, dd, vd) = kn .asChosen said y in
@@ -92,26 +110,29 @@ module _ (m n : Machine) (t : Table) (now : ℕ) (s r : State) (h g : List Line)
       ∙ Blank.blank-job t (r .tick .0) k g ∙ sym (kn .inTheState k)
 
 module _ (m n : Machine) (pm : Promise m) (pn : Promise n) (t : Table) (a : Passed m t) (b : Passed n t) (now : ℕ) (small : now < 2 ^ 32)
-    (alike : (calls : List Call) → Told (answered m t (stateAfter m t (start m t now) calls) choose) (answered n t (stateAfter n t (start n t now) calls) choose)) where
+    (alike : (calls : List Call) → SameSpeed (answered m t (stateAfter m t (start m t now) calls) choose) (answered n t (stateAfter n t (start n t now) calls) choose)) where
   same-lines : (calls : List Call) → blanks (lines m t (start m t now) calls) ≡ blanks (lines n t (start n t now) calls)
   unfolding lines
   same-lines [] = refl
   same-lines (call ∷ before) =
-      same-next m n t now _ _ _ _ (pm .kept t a now small before) (pn .kept t b now small before) (same-lines before) (alike before) call
+      same-next m n t now _ _ _ _ (pm .kept t a now small before) (pn .kept t b now small before) (same-lines before) (pm .kept t a now small (choose ∷ before)) (pn .kept t b now small (choose ∷ before)) (alike before) call
 
   same-at : (calls : List Call) → Same m n t (stateAfter m t (start m t now) calls) (stateAfter n t (start n t now) calls)
+  unfolding lines
   same-at calls =
       let km = pm .kept t a now small calls in
       let kn = pn .kept t b now small calls in
       let e = same-lines calls in
+      let next-m = pm .kept t a now small (choose ∷ calls) in
+      let next-n = pn .kept t b now small (choose ∷ calls) in
       record {
-        number = same-number m n t now _ _ _ _ km kn e (alike calls);
-        told = same-told m n t now _ _ _ _ km kn e (alike calls);
-        ending = same-ending m n t now _ _ _ _ km kn e (alike calls);
-        tick = same-tick m n t now _ _ _ _ km kn e (alike calls);
-        half = same-half m n t now _ _ _ _ km kn e (alike calls);
-        runner = same-runner m n t now _ _ _ _ km kn e (alike calls);
-        jobs = same-job m n t now _ _ _ _ km kn e (alike calls);
+        number = same-number m n t now _ _ _ _ km kn e next-m next-n (alike calls);
+        told = same-told m n t now _ _ _ _ km kn e next-m next-n (alike calls);
+        ending = same-ending m n t now _ _ _ _ km kn e next-m next-n (alike calls);
+        tick = same-tick m n t now _ _ _ _ km kn e next-m next-n (alike calls);
+        half = same-half m n t now _ _ _ _ km kn e next-m next-n (alike calls);
+        runner = same-runner m n t now _ _ _ _ km kn e next-m next-n (alike calls);
+        jobs = same-job m n t now _ _ _ _ km kn e next-m next-n (alike calls);
       }
 
 pub determined : Determined

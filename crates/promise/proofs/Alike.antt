@@ -10,7 +10,7 @@ use Rattle.table.specs.Table.{D, ceiling}
 use Rattle.state.specs.{declared.State.State, declared.Answer.Answer, declared.Section.Section, declared.Held.the-variants.In, declared.Mark.the-variants.Absent, declared.Mode.the-variants.Independent, declared.Mode.the-variants.Synchronization, declared.Report.the-variants.CarryOn, Answers.bare}
 use Rattle.state.specs.declared.Runner.the-variants.{Nobody, Job}
 use Rattle.promise.specs.History.{Machine, Call, release, choose, report, answered, Line, isOwn, section, hasStarted, latest, isThere, Ahead, standing, endingBy}
-use Rattle.promise.specs.Promise.{Below, InMode, Kept}
+use Rattle.promise.specs.Promise.{Below, InMode, FirstBlocked, Kept}
 use Rattle.promise.proofs.History.Tells.{line}
 
 module _ {m n : Machine} {t : Table} {now : ℕ} {s : State} {h : List Line} (k : Kept m t now s h) (e : (call : Call) → answered n t s call ≡ answered m t s call)
@@ -36,7 +36,7 @@ module _ {m n : Machine} {t : Table} {now : ℕ} {s : State} {h : List Line} (k 
     atASpeed = λ said j. subst (λ (a : Answer). isOwn j (line (report said) a) ≡ true → (1 ≤ a .speed) × (a .speed ≤ t .full) × InMode t j (a .mode) (a .speed)) (sym (e (report said))) (k .atASpeed said j);
     overAHolder = λ said i j x. subst (λ (a : Answer). isOwn i (line (report said) a) ≡ true → (j ≡ i → ⊥) → isThere t j h ≡ true → section j (latest j h) ≡ In x → a .mode ≡ Synchronization) (sym (e (report said))) (k .overAHolder said i j x);
     inOrder = λ i j. subst (λ (a : Answer). a .number ≡ 0 → a .runner ≡ Job i → isThere t j h ≡ true → Ahead t h j i
-        → (hasStarted j (latest j h) ≡ false) × ((p : ℕ) × (x : Section) × (isThere t p h ≡ true) × (section p (latest p h) ≡ In x))) (sym (e choose)) (k .inOrder i j);
+        → (hasStarted j (latest j h) ≡ false) × (hasStarted i (latest i h) ≡ true) × (a .mode ≡ Synchronization) × FirstBlocked t h) (sym (e choose)) (k .inOrder i j);
     startsFree = λ i j x. subst (λ (a : Answer). a .number ≡ 0 → a .runner ≡ Job i → hasStarted i (latest i h) ≡ false → (j ≡ i → ⊥) → isThere t j h ≡ true → section j (latest j h) ≡ In x → D t i < ceiling t (x .resource)) (sym (e choose)) (k .startsFree i j x);
     untilATake = λ none. subst (λ (a : Answer). a .number ≡ 0 → a .mode ≡ Independent) (sym (e choose)) (k .untilATake none);
     idlesAlone = subst (λ (a : Answer). a .number ≡ 0 → a .runner ≡ Nobody → ((j : ℕ) → isThere t j h ≡ false) × (a .mode ≡ Independent) × (a .speed ≡ 0) × (a .state .mark ≡ Absent)) (sym (e choose)) (k .idlesAlone);

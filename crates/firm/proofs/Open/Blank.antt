@@ -17,7 +17,7 @@ use Rattle.state.specs.declared.Report.the-variants.{CarryOn, Done, Take, Give}
 use Rattle.state.specs.declared.Runner.{Runner}
 use Rattle.state.specs.declared.Runner.the-variants as Runs
 use Rattle.state.specs.State.{empty}
-use Rattle.promise.specs.History.{Line, Call, release, choose, report, isTick, isOwn, isStart, takesOn, opens, longer, afterCall, isLast, ticksClosed, stepsGiven, section, hasStarted, endsAt, latest, isThere, wait, standing, ofReport, objection, numberBy, howEnded, endingBy, jobBy, halfBy, runnerBy}
+use Rattle.promise.specs.History.{Line, Call, release, choose, report, isTick, isOwn, isStart, takesOn, opens, longer, afterCall, isLast, ticksClosed, stepsGiven, section, hasStarted, endsAt, latest, isThere, ticksLeft, wait, standing, ofReport, objection, numberBy, howEnded, endingBy, jobBy, halfBy, runnerBy}
 
 abbrev pub blank : Answer → Answer
 blank a = record { number = a .number; state = empty (tick 0); runner = a .runner; mode = a .mode; speed = a .speed; ending = 0 }
@@ -121,6 +121,9 @@ blank-ending t h l (Runs.Job k) = ap (λ (b : Bool). cond b (howEnded (l .call))
 
 pub blank-closed : (k : ℕ) (h : List Line) → ticksClosed (latest k (blanks h)) ≡ ticksClosed (latest k h)
 blank-closed k h = ap ticksClosed (blank-latest k h) ∙ blank-ticks (latest k h)
+
+pub blank-left : (t : Table) (k : ℕ) (h : List Line) → ticksLeft t k (blanks h) ≡ ticksLeft t k h
+blank-left t k h = ap (λ (n : ℕ). D t k - n) (blank-closed k h)
 
 pub blank-used : (t : Table) (k : ℕ) (h : List Line) → stepsGiven t k (latest k (blanks h)) ≡ stepsGiven t k (latest k h)
 blank-used t k h = ap (stepsGiven t k) (blank-latest k h) ∙ blank-steps t k (latest k h)

@@ -14,21 +14,21 @@ use Rattle.state.specs.declared.Section.{Section}
 use Rattle.state.specs.declared.Held.{Held}
 use Rattle.state.specs.declared.Held.the-variants.{Nothing, In}
 use Rattle.state.specs.declared.Mark.the-variants.{Absent}
-use Rattle.state.specs.declared.Mode.the-variants.{Independent}
+use Rattle.state.specs.declared.Mode.the-variants.{Independent, Synchronization}
 use Rattle.state.specs.declared.Runner.the-variants as Runs
 use Rattle.state.specs.declared.State.{State}
 use Rattle.state.specs.State.{jobAt}
 use Rattle.state.specs.Order.{placeAt, positionOf, noPlace, isPending, isStarted}
-use Rattle.state.proofs.Laws.Order.{first-le, nearer-first, lower-first}
+use Rattle.state.proofs.Laws.Order.{first-le, first-found, place-position, nearer-first, lower-first}
 use Rattle.choice.specs.declared.Turn.{Turn}
 use Rattle.choice.specs.Choice.{top, bars, blocked, runner, turn, choice}
-use Rattle.choice.proofs.Laws.Bars.{bars-held, bars-holds}
+use Rattle.choice.proofs.Laws.Bars.{bars-held, bars-holds, bars-tells}
 use Rattle.choice.proofs.Laws.Choice as Law
 use Rattle.choice.proofs.Laws.Ready.{blocked-tells, blocked-holds, runs-started}
 use Rattle.choice.proofs.Laws.Runner.{runs-top, nobody, runner-free, runner-blocked}
 use Rattle.machine.specs.Machine.{chosen}
 use Rattle.promise.specs.History.{written, Line, choose, answered, isReport, isChoice, section, hasStarted, latest, isThere, ticksLeft, Ahead}
-use Rattle.promise.specs.Promise.{Passed}
+use Rattle.promise.specs.Promise.{Passed, FirstBlocked}
 use Rattle.promise.proofs.Edge.Choice as Chosen
 use Rattle.promise.proofs.Edge.Invariant.{passes, Good, is-ready, some-top}
 use Rattle.promise.proofs.Edge.View.{inside, below-16, takes-8}
@@ -117,7 +117,48 @@ module _ {t : Table} {passed : Passed written t} {s : State} (good : Good passed
                 let barred : bars (ceilings t) (D t k) (jobAt s i .held) ≡ true = ap (bars (ceilings t) (D t k)) held-i ∙ bars-holds t (D t k) x one-of-8 (omega arith) in
                 absurd (false≢true (sym (sym (ap (blocked t s) first) ∙ f) ∙ blocked-holds t s k unstarted-k i (below-16 (passes passed) (good .stands) i pending-i, barred, pending-i, other)))
 
-      -- one that is ahead of it has not started, and some job holds a resource
+      near : (i : ℕ) → jobAt s i .pending ≡ true → distance (s .tick .0) (jobAt s i .deadline .0) ≡ ticksLeft t i h
+      near i p = omega (arith, tells good listed i p .near)
+
+      nearer : (i l : ℕ) → jobAt s i .pending ≡ true → jobAt s l .pending ≡ true → Ahead t h i l → placeAt s i < placeAt s l
+      nearer i l pi pl (inl w) =
+          nearer-first (s .tick .0) (jobAt s i .deadline .0) (jobAt s l .deadline .0) i l (omega (arith, below-16 (passes passed) (good .stands) i pi)) (omega (arith, near i pi, near l pl, w))
+      nearer i l pi pl (inr w) = lower-first (s .tick .0) (jobAt s i .deadline .0) (jobAt s l .deadline .0) i l (w .1) (near i pi ∙ w .0 ∙ sym (near l pl))
+
+      run-is : runner t s ≡ placeAt s k
+      run-is = Law.runner-place t s (is-ready good) some ∙ ap (placeAt s) same
+
+      -- where top is blocked
+      module _ (e : blocked t s (positionOf (top s)) ≡ true) where
+        in-section : (i : ℕ) (x : Held) → section i (latest i h) ≡ x → (x ≡ Nothing → ⊥) → (y : Section) × (section i (latest i h) ≡ In y)
+        in-section i Nothing q holds = absurd (holds refl)
+        in-section i (In y) q holds = (y, q)
+
+        first-blocked : FirstBlocked t h
+        first-blocked =
+            let f = first-found s isPending some in
+            let p = f .0 in
+            let at : positionOf (top s) ≡ p = ap positionOf (f .3) ∙ place-position (s .tick .0) (jobAt s p .deadline .0) p (omega (arith, f .1)) in
+            let w = blocked-tells t s (positionOf (top s)) e .1 in
+            let i = w .0 in
+            let pending-i = w .1 .2 in
+            let held-is = tells good listed i pending-i .held in
+            let y = in-section i (section i (latest i h)) refl (λ z. bars-held _ _ _ (w .1 .1) (held-is ∙ z)) in
+            let one-of-8 = takes-8 (passes passed) (good .stands) (λ j m. passed .limits j (omega (arith, passes passed .count .high)) m) i (inside (passes passed) (good .stands) i pending-i) (y .0) (held-is ∙ y .1) in
+            record {
+              first = p;
+              there = sym (pending-is good listed p) ∙ f .2;
+              noneAhead = λ q there-q ahead. let pending-q = pending-is good listed q ∙ there-q in
+                  omega (arith, first-le s isPending q (below-16 (passes passed) (good .stands) q pending-q) pending-q, f .3, nearer q p pending-q (f .2) ahead);
+              holder = i;
+              other = λ z. w .1 .3 (z ∙ sym at);
+              held = y .0;
+              holderThere = sym (pending-is good listed i) ∙ pending-i;
+              holds = y .1;
+              bars = bars-tells t (D t p) (y .0) one-of-8 (ap (bars (ceilings t) (D t p)) (sym (held-is ∙ y .1)) ∙ ap (λ (n : ℕ). bars (ceilings t) (D t n) (jobAt s i .held)) (sym at) ∙ w .1 .1);
+            }
+
+      -- one that is ahead of it has not started, and the first of all is blocked
       module _ (j : ℕ) (there-j : isThere t j h ≡ true) (ahead : Ahead t h j k) where
         pending-j : jobAt s j .pending ≡ true
         pending-j = pending-is good listed j ∙ there-j
@@ -125,34 +166,21 @@ module _ {t : Table} {passed : Passed written t} {s : State} (good : Good passed
         small : j < 16
         small = below-16 (passes passed) (good .stands) j pending-j
 
-        near : (i : ℕ) → jobAt s i .pending ≡ true → distance (s .tick .0) (jobAt s i .deadline .0) ≡ ticksLeft t i h
-        near i p = omega (arith, tells good listed i p .near)
-
-        nearer : Ahead t h j k → placeAt s j < placeAt s k
-        nearer (inl w) =
-            nearer-first (s .tick .0) (jobAt s j .deadline .0) (jobAt s k .deadline .0) j k (omega (arith, small)) (omega (arith, near j pending-j, near k pending-k, w))
-        nearer (inr w) = lower-first (s .tick .0) (jobAt s j .deadline .0) (jobAt s k .deadline .0) j k (w .1) (near j pending-j ∙ w .0 ∙ sym (near k pending-k))
-
-        run-is : runner t s ≡ placeAt s k
-        run-is = Law.runner-place t s (is-ready good) some ∙ ap (placeAt s) same
-
         unstarted : blocked t s (positionOf (top s)) ≡ true → (b : Bool) → jobAt s j .started ≡ b → jobAt s j .started ≡ false
         unstarted e false f = f
-        unstarted e true f = absurd (omega (arith, first-le s isStarted j small (rw (pending-j, f) refl), runner-blocked t s e, run-is, nearer ahead))
+        unstarted e true f = absurd (omega (arith, first-le s isStarted j small (rw (pending-j, f) refl), runner-blocked t s e, run-is, nearer j k pending-j pending-k ahead))
 
-        in-section : (i : ℕ) (x : Held) → section i (latest i h) ≡ x → (x ≡ Nothing → ⊥) → (y : Section) × (section i (latest i h) ≡ In y)
-        in-section i Nothing e holds = absurd (holds refl)
-        in-section i (In y) e holds = (y, e)
+        not-top : runner t s ≡ top s → ⊥
+        not-top q = omega (arith, first-le s isPending j small pending-j, q, run-is, nearer j k pending-j pending-k ahead)
 
-        pub in-order : (hasStarted j (latest j h) ≡ false) × ((i : ℕ) × (x : Section) × (isThere t i h ≡ true) × (section i (latest i h) ≡ In x))
+        pub in-order : (hasStarted j (latest j h) ≡ false) × (hasStarted k (latest k h) ≡ true) × (a .mode ≡ Synchronization) × FirstBlocked t h
         in-order = go (blocked t s (positionOf (top s))) refl
           where
-            go : (b : Bool) → blocked t s (positionOf (top s)) ≡ b
-                → (hasStarted j (latest j h) ≡ false) × ((i : ℕ) × (x : Section) × (isThere t i h ≡ true) × (section i (latest i h) ≡ In x))
-            go false e = absurd (omega (arith, first-le s isPending j small pending-j, runner-free t s e, run-is, nearer ahead))
-            go true e =
-                let w = blocked-tells t s (positionOf (top s)) e .1 in
-                let i = w .0 in
-                let pending-i = w .1 .2 in
-                let y = in-section i (section i (latest i h)) refl (λ z. bars-held _ _ _ (w .1 .1) (tells good listed i pending-i .held ∙ z)) in
-                (sym (tells good listed j pending-j .started) ∙ unstarted e (jobAt s j .started) refl, (i, y .0, sym (pending-is good listed i) ∙ pending-i, y .1))
+            go : (b : Bool) → blocked t s (positionOf (top s)) ≡ b → (hasStarted j (latest j h) ≡ false) × (hasStarted k (latest k h) ≡ true) × (a .mode ≡ Synchronization) × FirstBlocked t h
+            go false e = absurd (not-top (runner-free t s e))
+            go true e = (
+              sym (tells good listed j pending-j .started) ∙ unstarted e (jobAt s j .started) refl,
+              sym (tells good listed k pending-k .started) ∙ ap (λ (p : ℕ). jobAt s p .started) (sym same) ∙ runs-started t s (is-ready good) some e,
+              its (λ b. b .mode) (λ u. u .mode) refl ∙ Law.marked-not-top t s (is-ready good) some not-top .mode,
+              first-blocked e,
+            )
