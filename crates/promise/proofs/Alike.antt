@@ -7,7 +7,7 @@ use mathlib.Core.Logic.{_⊎_, inl, inr}
 use mathlib.Core.Option.{some}
 use Rattle.table.specs.declared.Table.{Table}
 use Rattle.table.specs.Table.{D, ceiling}
-use Rattle.state.specs.{declared.State.State, declared.Answer.Answer, declared.Section.Section, declared.Held.the-variants.In, declared.Mark.the-variants.Absent, declared.Mode.the-variants.Independent, declared.Mode.the-variants.Synchronization, declared.Report.the-variants.CarryOn, Answers.bare}
+use Rattle.state.specs.{declared.State.State, declared.Answer.Answer, declared.Held.the-variants.In, declared.Mark.the-variants.Absent, declared.Mode.the-variants.Independent, declared.Mode.the-variants.Synchronization, declared.Report.the-variants.CarryOn, Answers.bare}
 use Rattle.state.specs.declared.Runner.the-variants.{Nobody, Job}
 use Rattle.promise.specs.History.{Machine, Call, release, choose, report, answered, Line, isOwn, section, hasStarted, latest, isThere, Ahead, standing, endingBy}
 use Rattle.promise.specs.Promise.{Below, InMode, FirstBlocked, Kept}

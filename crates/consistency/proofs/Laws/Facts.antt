@@ -58,7 +58,7 @@ pub record Consistent (t : Table) (s : State) : Type 0 where
 mark-tells : (count now : ℕ) (k : Mark) → markFits count now k ≡ true → (m : Place) → k ≡ At m → MarkFits count now m
 mark-tells count now k h m e = let w = sym (ap (markFits count now) e) ∙ h in search parts
 
-mark-holds : (count now : ℕ) (k : Mark) → ((m : Place) → k ≡ At m → MarkFits count now m) → markFits count now k ≡ true
+pub mark-holds : (count now : ℕ) (k : Mark) → ((m : Place) → k ≡ At m → MarkFits count now m) → markFits count now k ≡ true
 mark-holds count now Absent f = refl
 mark-holds count now (At m) f = let w = f m refl in search tests
 
