@@ -6,6 +6,7 @@ use Rattle.admission.proofs.Laws.Alike.{verdict-same}
 use Rattle.state.proofs.Laws.Order.{nearer-first, lower-first}
 use Rattle.state.proofs.Laws.Fresh.{fresh-same}
 use Rattle.machine.proofs.Laws.Alike.{release-same, choose-same, report-same}
+use Rattle.machine.proofs.Laws.Calls.{release-refused, choose-refused, report-refused}
 use Rattle.listing.proofs.Laws.{listing-le}
 use Rattle.promise.proofs.History.Mark.{mark-stays}
 use Rattle.firm.specs.Cited.{SameTasks, Cited}
@@ -26,6 +27,9 @@ cited = record {
   releaseSame = λ t u a. release-same (alike a);
   chooseSame = λ t u a. choose-same (alike a);
   reportSame = λ t u a. report-same (alike a);
+  releaseRefused = release-refused;
+  chooseRefused = choose-refused;
+  reportRefused = report-refused;
   markStays = λ t passed now small calls m run e. mark-stays passed now small calls m e run;
   listingFits = listing-le;
 }

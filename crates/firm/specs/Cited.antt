@@ -14,6 +14,7 @@ use Rattle.state.specs.declared.State.{State}
 use Rattle.state.specs.declared.Report.{Report}
 use Rattle.state.specs.State.{fresh}
 use Rattle.state.specs.Order.{place, lastHolder}
+use Rattle.state.specs.Answers.{bare}
 use Rattle.choice.specs.Choice.{oldMark}
 use Rattle.machine.specs.Machine.{release, choose, report}
 use Rattle.listing.specs.Listing.{listing}
@@ -42,6 +43,10 @@ pub record Cited : Type 0 where
   pub releaseSame : (t u : Table) → SameTasks t u → (s : State) (p : ℕ) → release t s p ≡ release u s p
   pub chooseSame : (t u : Table) → SameTasks t u → (s : State) → choose t s ≡ choose u s
   pub reportSame : (t u : Table) → SameTasks t u → (s : State) (said : Report) → report t s said ≡ report u s said
+  -- "Every refusal leaves the state unchanged and returns no job, independent, speed 0, ending 0."
+  pub releaseRefused : (t : Table) (s : State) (p : ℕ) → (release t s p .number ≡ 0 → ⊥) → release t s p ≡ bare (release t s p .number) s
+  pub chooseRefused : (t : Table) (s : State) → (choose t s .number ≡ 0 → ⊥) → choose t s ≡ bare (choose t s .number) s
+  pub reportRefused : (t : Table) (s : State) (said : Report) → (report t s said .number ≡ 0 → ⊥) → report t s said ≡ bare (report t s said .number) s
   -- in a history a mark that stands is the last in order among itself and the holders behind any place
   pub markStays : (t : Table) → Passed written t → (now : ℕ) → now < 2 ^ 32 → (calls : List Call) (m : Place) (run : ℕ) → let s = stateAfter written t (start written t now) calls in
       s .mark ≡ At m → max (oldMark s) (lastHolder s run) ≡ oldMark s
