@@ -8,7 +8,7 @@ use Rattle.state.proofs.Laws.Fresh.{fresh-same}
 use Rattle.machine.proofs.Laws.Alike.{release-same, choose-same, report-same}
 use Rattle.machine.proofs.Laws.Calls.{release-refused, choose-refused, report-refused}
 use Rattle.listing.proofs.Laws.{listing-le}
-use Rattle.promise.proofs.History.Mark.{mark-stays}
+use Rattle.promise.proofs.History.Mark.{mark-stays, mark-stays-blocked}
 use Rattle.firm.specs.Cited.{SameTasks, Cited}
 
 alike : {t u : Table} → SameTasks t u → Alike t u
@@ -31,5 +31,6 @@ cited = record {
   chooseRefused = choose-refused;
   reportRefused = report-refused;
   markStays = λ t passed now small calls m run e. mark-stays passed now small calls m e run;
+  markStaysBlocked = λ t passed now small calls m e l n. mark-stays-blocked passed now small calls m e l n;
   listingFits = listing-le;
 }

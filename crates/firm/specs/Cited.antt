@@ -13,9 +13,9 @@ use Rattle.state.specs.declared.Place.{Place}
 use Rattle.state.specs.declared.State.{State}
 use Rattle.state.specs.declared.Report.{Report}
 use Rattle.state.specs.State.{fresh}
-use Rattle.state.specs.Order.{place, lastHolder}
+use Rattle.state.specs.Order.{place, noPlace, lastHolder}
 use Rattle.state.specs.Answers.{bare}
-use Rattle.choice.specs.Choice.{oldMark}
+use Rattle.choice.specs.Choice.{top, runner, oldMark}
 use Rattle.machine.specs.Machine.{release, choose, report}
 use Rattle.listing.specs.Listing.{listing}
 use Rattle.promise.specs.History.{written, Call, start, stateAfter}
@@ -50,5 +50,8 @@ pub record Cited : Type 0 where
   -- in a history a mark that stands is the last in order among itself and the holders behind any place
   pub markStays : (t : Table) → Passed written t → (now : ℕ) → now < 2 ^ 32 → (calls : List Call) (m : Place) (run : ℕ) → let s = stateAfter written t (start written t now) calls in
       s .mark ≡ At m → max (oldMark s) (lastHolder s run) ≡ oldMark s
+  -- and so it is among itself, a runner that is not top, and the holders behind that
+  pub markStaysBlocked : (t : Table) → Passed written t → (now : ℕ) → now < 2 ^ 32 → (calls : List Call) (m : Place) → let s = stateAfter written t (start written t now) calls in
+      s .mark ≡ At m → top s < noPlace → (runner t s ≡ top s → ⊥) → max (oldMark s) (max (runner t s) (lastHolder s (runner t s))) ≡ oldMark s
   -- a listing fits in the output
   pub listingFits : (file : List ℕ) → length (listing file) ≤ 131072

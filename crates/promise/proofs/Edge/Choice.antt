@@ -97,7 +97,7 @@ module _ {t : Table} {passed : Passed written t} {s : State} (good : Good passed
 
   -- ---- top
 
-  first-is : (first < 16) × (jobAt s first .pending ≡ true) × (top s ≡ placeAt s first)
+  pub first-is : (first < 16) × (jobAt s first .pending ≡ true) × (top s ≡ placeAt s first)
   first-is =
       let w = first-found s isPending some in
       let e : w .0 ≡ first = sym (ap positionOf (w .3) ∙ place-position now (jobAt s (w .0) .deadline .0) (w .0) (omega (arith, w .1))) in

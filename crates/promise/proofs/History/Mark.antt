@@ -36,9 +36,11 @@ use Rattle.machine.specs.Machine.{releasedAt}
 use Rattle.machine.proofs.Laws.Calls.{released-job, released-others}
 use Rattle.promise.specs.History.{written, Call, lines, start}
 use Rattle.promise.specs.Promise.{Passed}
+use Rattle.promise.proofs.Core.Choice.{Blocked, Free}
+use Rattle.promise.proofs.Core.Stack.{runner-blocks}
 use Rattle.promise.proofs.Edge.Choice as Chosen
 use Rattle.promise.proofs.Edge.Invariant.{some-top, passes, Good, is-ready, sees}
-use Rattle.promise.proofs.Edge.View.{marked, below-16}
+use Rattle.promise.proofs.Edge.View.{tasks, marked, view, below-16}
 use Rattle.promise.proofs.History.Start.{start-is, at, at-good, made}
 use Rattle.promise.proofs.Keep.Made.{Made, refused, takes-on, chooses, idles, runs}
 
@@ -201,3 +203,34 @@ module _ {t : Table} (passed : Passed written t) (now : ℕ) (small : now < 2 ^ 
           let h = both (isHolder (jobAt s (w .0))) (ltb run (placeAt s (w .0))) (w .2) in
           let held = both (holdsAny (jobAt s (w .0) .held)) (jobAt s (w .0) .pending) (h .0) in
           omega (arith, w .3, none-behind calls m e (w .0) (held .0), ap (markPlace (s .tick .0)) e)
+
+  -- a runner that is not top blocks it, and so holds something
+  blocker-holds : (calls : List Call) → let s = at passed now small calls in top s < noPlace → (runner t s ≡ top s → ⊥) → holdsAny (jobAt s (positionOf (runner t s)) .held) ≡ true
+  blocker-holds calls l n = go (Chosen.chosen good l .who)
+    where
+      s : State
+      s = at passed now small calls
+
+      good : Good passed s
+      good = at-good passed now small calls
+
+      go : ((positionOf (runner t s) ≡ positionOf (top s)) × ((view t s .started (positionOf (top s)) ≡ true) ⊎ Free (tasks t) (view t s) (positionOf (top s))))
+          ⊎ Blocked (tasks t) (view t s) (positionOf (runner t s)) (positionOf (top s))
+          → holdsAny (jobAt s (positionOf (runner t s)) .held) ≡ true
+      go (inl w) = absurd (n (Law.runner-place t s (is-ready good) l ∙ ap (placeAt s) (w .0) ∙ sym (Chosen.first-is good l .2)))
+      go (inr w) =
+          sees passed (good .stands) .left-holds (positionOf (runner t s)) _
+          (runner-blocks (sees passed (good .stands)) (Chosen.chosen good l) (good .mid .shorter) (good .mid .clear) w)
+
+  -- so "the last in order among the old mark, the runner, and any holders behind the runner" is the old mark too
+  pub mark-stays-blocked : (calls : List Call) (m : Place) → let s = at passed now small calls in s .mark ≡ At m → top s < noPlace → (runner t s ≡ top s → ⊥)
+      → max (oldMark s) (max (runner t s) (lastHolder s (runner t s))) ≡ oldMark s
+  mark-stays-blocked calls m e l n =
+      let s = at passed now small calls in
+      omega (
+        arith,
+        mark-stays calls m e (runner t s),
+        none-behind calls m e (positionOf (runner t s)) (blocker-holds calls l n),
+        ap (markPlace (s .tick .0)) e,
+        Law.runner-place t s (is-ready (at-good passed now small calls)) l,
+      )
