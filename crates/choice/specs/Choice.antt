@@ -1,10 +1,10 @@
 -- "First half, the choice."
 use Prim.Native.Nat.{ℕ, _/_, min, max}
-use mathlib.Core.{Bool.Bool, Bool.true, Bool.false, Bool.not, Bool._&&_, Bool.cond, List.List}
+use mathlib.Core.{Bool.Bool, Bool.true, Bool.not, Bool._&&_, Bool.cond, List.List}
 use lib.{ListN.getD, ListN.set, Dec.ltb, Dec.leb, Dec.eqb}
 use Rattle.units.specs.{declared.Ticks.Ticks, Amounts.ticks, Clock.tick, Clock.after, Folds.smallest, Folds.largest, Folds.some}
 use Rattle.table.specs.{declared.Task.Task, declared.Table.Table, Table.taskAt, Table.D, Table.S, Table.ceilings}
-use Rattle.state.specs.{declared.Job.Job, declared.State.State, declared.Held.Held, declared.Held.the-variants.Nothing, declared.Held.the-variants.In, declared.Place.Place, declared.Mark.Mark, declared.Mark.the-variants.Absent, declared.Mark.the-variants.At, declared.Half.the-variants.Second, declared.Runner.Runner, declared.Mode.the-variants.Independent, declared.Mode.the-variants.Synchronization, State.jobAt, Order.place, Order.placeAt, Order.positionOf, Order.noPlace, Order.isPending, Order.isStarted, Order.firstInOrder, Order.lastHolder}
+use Rattle.state.specs.{declared.Job.Job, declared.State.State, declared.Section.Section, declared.Stack.Stack, declared.Place.Place, declared.Mark.Mark, declared.Mark.the-variants.Absent, declared.Mark.the-variants.At, declared.Half.the-variants.Second, declared.Runner.Runner, declared.Mode.the-variants.Independent, declared.Mode.the-variants.Synchronization, Stack.anyOn, State.jobAt, Order.place, Order.placeAt, Order.positionOf, Order.noPlace, Order.isPending, Order.isStarted, Order.firstInOrder, Order.lastHolder}
 use Rattle.choice.specs.{declared.Turn.Turn, declared.Choice.Choice}
 use Rattle.state.specs.declared.Runner.the-variants as Runs
 
@@ -12,10 +12,13 @@ use Rattle.state.specs.declared.Runner.the-variants as Runs
 abbrev pub top : State → ℕ
 top s = firstInOrder isPending s
 
--- "holds a resource whose ceiling is at most top's D"; a resource above 7 has none, which reads as 0
-abbrev pub bars : List Ticks → ℕ → Held → Bool
-bars ceilings d Nothing = false
-bars ceilings d (In x) = leb (getD ceilings (x .resource) (ticks 0) .0) d
+-- "a resource whose ceiling is at most top's D"; a resource above 7 has none, which reads as 0
+abbrev pub sectionBars : List Ticks → ℕ → Section → Bool
+sectionBars ceilings d x = leb (getD ceilings (x .resource) (ticks 0) .0) d
+
+-- "holds" such a resource: in any section on its stack
+abbrev pub bars : List Ticks → ℕ → Stack → Bool
+bars ceilings d h = anyOn (sectionBars ceilings d) h
 
 -- "It is blocked if it is not started and another pending job" does
 unfoldable pub blocked : Table → State → ℕ → Bool

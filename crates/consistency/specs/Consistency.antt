@@ -2,9 +2,9 @@
 use Prim.Native.Nat.{ℕ, _+_, _-_}
 use mathlib.Core.{Bool.Bool, Bool.true, Bool.false, Bool.not, Bool._&&_, Bool._||_, Bool.cond}
 use lib.{Dec.ltb, Dec.leb, Dec.eqb}
-use Rattle.units.specs.{Clock.distance, Folds.all, Sets.has}
+use Rattle.units.specs.{Clock.distance, Folds.all, Folds.some, Sets.has}
 use Rattle.table.specs.{declared.Task.Task, declared.Table.Table, Table.taskAt, Table.limit}
-use Rattle.state.specs.{declared.Job.Job, declared.State.State, declared.Held.Held, declared.Held.the-variants.Nothing, declared.Held.the-variants.In, declared.Mark.Mark, declared.Mark.the-variants.Absent, declared.Mark.the-variants.At, declared.Half.Half, declared.Half.the-variants.First, declared.Half.the-variants.Second, declared.Runner.Runner, State.jobAt, State.passes, Order.holdsAny, Order.holds}
+use Rattle.state.specs.{declared.Job.Job, declared.State.State, declared.Section.Section, declared.Stack.Stack, declared.Mark.Mark, declared.Mark.the-variants.Absent, declared.Mark.the-variants.At, declared.Half.Half, declared.Half.the-variants.First, declared.Half.the-variants.Second, declared.Runner.Runner, Stack.sectionAt, Stack.anyOn, State.jobAt, State.passes, Order.holdsAny, Order.holds}
 use Rattle.choice.specs.{declared.Turn.Turn, Choice.turn}
 use Rattle.state.specs.declared.Runner.the-variants as Runs
 
@@ -23,23 +23,33 @@ pendingFits task now j =
 unfoldable pub startedFits : Job → Bool
 startedFits j = j .started || (eqb (j .used .0) 0 && not (holdsAny (j .held)))
 
--- "a held resource has limit above 0, its section steps are below the limit"
-abbrev pub heldFits : Task → Held → Bool
-heldFits task Nothing = true
-heldFits task (In x) = ltb 0 (limit task (x .resource)) && ltb (x .steps .0) (limit task (x .resource))
+-- "a held resource has limit above 0, its section steps are below the limit"; on one stack "no resource twice"
+abbrev pub sectionFits : Task → Stack → ℕ → Bool
+sectionFits task h i =
+    let x = sectionAt h i in
+    ltb 0 (limit task (x .resource)) && (ltb (x .steps .0) (limit task (x .resource)) && not (some (λ m. eqb (sectionAt h m .resource) (x .resource)) i))
+
+unfoldable pub heldFits : Task → Stack → Bool
+heldFits task h = all (λ i. leb (h .depth) i || sectionFits task h i) 4
 
 -- "and no other job holds it"
-abbrev pub aloneIn : State → ℕ → Held → Bool
-aloneIn s k Nothing = true
-aloneIn s k (In x) = all (λ i. eqb i k || not (holds (x .resource) (jobAt s i .held))) 16
+abbrev pub otherHolds : State → ℕ → Section → Bool
+otherHolds s k x = some (λ i. not (eqb i k) && holds (x .resource) (jobAt s i .held)) 16
 
-abbrev pub alone : State → ℕ → Bool
-alone s k = aloneIn s k (jobAt s k .held)
+unfoldable pub alone : State → ℕ → Bool
+alone s k = not (anyOn (otherHolds s k) (jobAt s k .held))
 
--- the resource that is held is in the set
-abbrev pub isTaken : ℕ → Held → Bool
-isTaken m Nothing = false
-isTaken m (In x) = has m (x .resource)
+-- a resource that is held is in the set
+abbrev pub isTaken : ℕ → Stack → Bool
+isTaken m h = anyOn (λ x. has m (x .resource)) h
+
+-- a place that is not in use
+abbrev pub isNone : Section → Bool
+isNone x = eqb (x .resource) 0 && eqb (x .steps .0) 0
+
+-- "up to four"; "what is not in use is 0": the places above them
+unfoldable pub stackFits : Stack → Bool
+stackFits h = leb (h .depth) 4 && all (λ i. ltb i (h .depth) || isNone (sectionAt h i)) 4
 
 -- "a wait is at most T"
 unfoldable pub waitFits : Task → Job → Bool
@@ -54,7 +64,8 @@ unfoldable pub unused : Job → Bool
 unused j = not (j .pending) && (eqb (j .wait .0) 0 && notPendingFits j)
 
 unfoldable pub positionFits : Table → State → ℕ → Bool
-positionFits t s k = cond (ltb k (t .count)) (jobFits (taskAt t k) (s .tick .0) (jobAt s k)) (unused (jobAt s k))
+positionFits t s k =
+    stackFits (jobAt s k .held) && cond (ltb k (t .count)) (jobFits (taskAt t k) (s .tick .0) (jobAt s k)) (unused (jobAt s k))
 
 -- all of these, at each position
 unfoldable pub positionsFit : Table → State → Bool

@@ -1,3 +1,5 @@
 pub mod Fresh
+pub mod Stacks
+pub mod Past
 pub mod Holders
 pub mod Order

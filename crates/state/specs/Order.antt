@@ -1,9 +1,9 @@
 -- The order of the jobs, and who holds what.
 use Prim.Native.Nat.{ℕ, _+_, _*_, _%_, _^_}
-use mathlib.Core.{Bool.Bool, Bool.true, Bool.false, Bool._&&_}
+use mathlib.Core.{Bool.Bool, Bool._&&_}
 use lib.{Dec.ltb, Dec.eqb}
-use Rattle.units.specs.{Clock.distance, Folds.smallest, Folds.largest, Folds.some, Sets.set, Sets.with}
-use Rattle.state.specs.{declared.Job.Job, declared.Held.Held, declared.Held.the-variants.Nothing, declared.Held.the-variants.In, declared.State.State, State.jobAt}
+use Rattle.units.specs.{Clock.distance, Folds.smallest, Folds.largest, Folds.some, Folds.over, Sets.set, Sets.with}
+use Rattle.state.specs.{declared.Job.Job, declared.Stack.Stack, declared.State.State, Stack.sectionAt, Stack.anyOn, State.jobAt}
 
 -- "Order: nearer deadline first; equal deadlines by lower position.": a place in the order as one number, the smaller the nearer
 unfoldable pub place : ℕ → ℕ → ℕ → ℕ
@@ -27,10 +27,9 @@ isPending j = j .pending
 abbrev pub isStarted : Job → Bool
 isStarted j = j .pending && j .started
 
--- "resource held or none"
-abbrev pub holdsAny : Held → Bool
-holdsAny Nothing = false
-holdsAny (In x) = true
+-- "holds a resource": its stack is not empty
+abbrev pub holdsAny : Stack → Bool
+holdsAny h = ltb 0 (h .depth)
 
 abbrev pub isHolder : Job → Bool
 isHolder j = holdsAny (j .held) && j .pending
@@ -43,16 +42,14 @@ firstInOrder p s = smallest (λ k. p (jobAt s k)) (placeAt s) noPlace 16
 unfoldable pub lastHolder : State → ℕ → ℕ
 lastHolder s at = largest (λ k. isHolder (jobAt s k) && ltb at (placeAt s k)) (placeAt s) 16
 
--- the resource is the one that is held
-abbrev pub holds : ℕ → Held → Bool
-holds r Nothing = false
-holds r (In x) = eqb r (x .resource)
+-- the resource is one of those that are held
+abbrev pub holds : ℕ → Stack → Bool
+holds r h = anyOn (λ x. eqb r (x .resource)) h
 
 -- the resources that some job holds, one bit each
 unfoldable pub heldResources : State → ℕ
 heldResources s = set (λ r. some (λ k. holds r (jobAt s k .held)) 16) 16
 
--- a set of resources with the one that is held
-abbrev pub withHeld : ℕ → Held → ℕ
-withHeld m Nothing = m
-withHeld m (In x) = with m (x .resource)
+-- a set of resources with those that are held
+abbrev pub withHeld : ℕ → Stack → ℕ
+withHeld m h = over (λ i. ltb i (h .depth)) (λ i found. with found (sectionAt h i .resource)) m 4

@@ -16,9 +16,10 @@ pub struct Section {
     pub steps: Steps,
 }
 
-pub enum Held {
-    Nothing,
-    In(Section),
+// The sections that a job is in, the outermost first: of four places those below the depth are in use.
+pub struct Stack {
+    pub depth: u8,
+    pub sections: [Section; 4],
 }
 
 // The job of one task. What is not in use is 0.
@@ -27,7 +28,7 @@ pub struct Job {
     pub started: bool,
     pub deadline: Tick,
     pub used: Steps,
-    pub held: Held,
+    pub held: Stack,
     pub wait: Ticks,
 }
 
@@ -89,13 +90,29 @@ pub struct Start {
     pub state: State,
 }
 
+impl Section {
+    pub const NONE: Section = Section {
+        resource: 0,
+        steps: Steps(0),
+    };
+}
+
+impl Stack {
+    pub const PLACES: usize = 4;
+
+    pub const EMPTY: Stack = Stack {
+        depth: 0,
+        sections: [Section::NONE; 4],
+    };
+}
+
 impl Job {
     pub const NONE: Job = Job {
         pending: false,
         started: false,
         deadline: Tick(0),
         used: Steps(0),
-        held: Held::Nothing,
+        held: Stack::EMPTY,
         wait: Ticks(0),
     };
 }

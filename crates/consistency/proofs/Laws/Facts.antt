@@ -26,9 +26,10 @@ use Rattle.state.specs.declared.Runner.the-variants as Runs
 use Rattle.state.specs.State.{jobAt, noJob, empty, passes}
 use Rattle.state.specs.Order.{holdsAny}
 use Rattle.state.proofs.Laws.Fresh.{empty-job}
+use Rattle.state.proofs.Laws.Stacks.{on-any}
 use Rattle.choice.specs.Choice.{turn}
 use Rattle.consistency.specs.Consistency.{positionFits, markFits, sameRunner, sameMark, hasBegun, unchanged, halfFits, consistent}
-use Rattle.consistency.proofs.Laws.Jobs.{JobFits}
+use Rattle.consistency.proofs.Laws.Jobs.{JobFits, Unused, nothing-fits, nothing-held}
 use Rattle.consistency.proofs.Laws.Held.{Once}
 use Rattle.consistency.proofs.Laws.Places.{used-tells, past-tells, place-holds, places-tells, places-hold}
 
@@ -47,7 +48,7 @@ pub record Unchanged (t : Table) (s : State) : Type 0 where
 pub record Consistent (t : Table) (s : State) : Type 0 where
   pub passes : answer (verdict t) .0 ≡ 0
   pub jobs : (k : ℕ) → k < t .count → JobFits (taskAt t k) (s .tick .0) (jobAt s k)
-  pub past : (k : ℕ) → t .count ≤ k → k < 16 → jobAt s k ≡ noJob
+  pub past : (k : ℕ) → t .count ≤ k → k < 16 → Unused (jobAt s k)
   pub once : Once s 16
   pub mark : (m : Place) → s .mark ≡ At m → MarkFits (t .count) (s .tick .0) m
   pub first : s .half ≡ First → s .runner ≡ Runs.Nobody
@@ -159,11 +160,15 @@ module _ (t : Table) (s : State) where
 
 -- ---- a fresh start
 
+pub no-job-unused : Unused noJob
+no-job-unused = record { pending = refl; wait = refl; stack = nothing-fits; absent = record { started = refl; used = refl; held = refl; deadline = refl } }
+
 no-job-fits : (task : Task) (now : ℕ) → JobFits task now noJob
 no-job-fits task now = record {
   wait = zero-le;
   unstarted = λ e. record { used = refl; held = refl };
-  section = λ x e. absurd (false≢true (ap holdsAny e));
+  stack = nothing-fits;
+  held = nothing-held task;
   pending = λ e. absurd (false≢true e);
   absent = λ e. record { started = refl; used = refl; held = refl; deadline = refl };
 }
@@ -181,8 +186,8 @@ unfolding empty
 fresh-consistent t now h = consistent-holds t (empty now) (record {
   passes = h;
   jobs = λ k l. rw (empty-job now k) (no-job-fits (taskAt t k) (now .0));
-  past = λ k l b. empty-job now k;
-  once = λ i j x y l m p. absurd (false≢true (ap holdsAny (sym (ap (λ (j : Job). j .held) (empty-job now i)) ∙ p)));
+  past = λ k l b. rw (empty-job now k) no-job-unused;
+  once = λ i j r l m p. absurd (false≢true (sym (ap (λ (j : Job). holdsAny (j .held)) (empty-job now i)) ∙ on-any _ (jobAt (empty now) i .held) p));
   mark = λ m e. absurd (false≢true (sym (ap isAbsent e)));
   first = λ e. refl;
   second = λ e. absurd (false≢true (sym (ap isFirst e)));

@@ -1,14 +1,14 @@
 -- Each rule, over what a function finds on its way (a variant, a number that another function gives): where `search` goes on to the tests. Assumes nothing.
 use Prim.Native.Nat.{ℕ, _+_, _-_, _≤_}
-use mathlib.Core.Path.{_≡_, sym, ap}
-use mathlib.Core.Bool.{Bool, false, _&&_}
+use mathlib.Core.Path.{_≡_, refl, sym, ap, _∙_}
+use mathlib.Core.Bool.{Bool, false, not, _&&_}
 use native.Mathlib.Omega.{arith}
 use lib.Dec.{ltb, leb, eqb}
 use lib.ListN.{length, List·getD-eq-default}
 use Rattle.units.specs.declared.Steps.{Steps}
 use Rattle.units.specs.Amounts.{steps}
 use Rattle.units.specs.Clock.{distance}
-use Rattle.units.specs.Sets.{has}
+use Rattle.units.specs.Folds.{some}
 use Rattle.verdict.specs.declared.Verdict.{Verdict}
 use Rattle.verdict.specs.Verdict.{answer}
 use Rattle.table.specs.declared.Task.{Task}
@@ -16,9 +16,8 @@ use Rattle.table.specs.declared.Table.{Table}
 use Rattle.table.specs.Table.{limit}
 use Rattle.admission.specs.Admission.{verdict}
 use Rattle.state.specs.declared.Job.{Job}
-use Rattle.state.specs.declared.Section.{Section}
-use Rattle.state.specs.declared.Held.{Held}
-use Rattle.state.specs.declared.Held.the-variants.{In}
+use Rattle.state.specs.declared.Stack.{Stack}
+use Rattle.state.specs.Stack.{sectionAt}
 use Rattle.state.specs.declared.Place.{Place}
 use Rattle.state.specs.declared.Mark.{Mark}
 use Rattle.state.specs.declared.Mark.the-variants.{At}
@@ -27,10 +26,11 @@ use Rattle.state.specs.declared.Half.the-variants.{Second}
 use Rattle.state.specs.declared.Runner.{Runner}
 use Rattle.state.specs.declared.Runner.the-variants as Runs
 use Rattle.state.specs.declared.State.{State}
-use Rattle.state.specs.State.{noJob, jobAt, passes}
+use Rattle.state.specs.State.{passes}
+use Rattle.state.proofs.Laws.Past.{pastJob, readAt, read-same}
 use Rattle.choice.specs.declared.Turn.{Turn}
 use Rattle.choice.specs.Choice.{turn}
-use Rattle.consistency.specs.Consistency.{pendingFits, heldFits, isTaken, markFits, sameRunner, sameMark, hasBegun, unchanged, halfFits}
+use Rattle.consistency.specs.Consistency.{pendingFits, sectionFits, markFits, sameRunner, sameMark, hasBegun, unchanged, halfFits}
 
 pub found-passes : (t : Table) {v : Verdict} {n : ℕ} {r : Bool} → v ≡ verdict t → n ≡ answer v .0 → eqb n 0 ≡ r → passes t ≡ r
 unfolding passes
@@ -43,12 +43,10 @@ pub found-pending : (task : Task) (now : ℕ) (j : Job) {ahead rest : ℕ} {r : 
 unfolding pendingFits
 found-pending task now j e f h = rw (← e, ← f) h
 
-pub found-held : (task : Task) {h : Held} {x : Section} {l : Steps} {r : Bool} → h ≡ In x → l ≡ steps (limit task (x .resource))
-    → r ≡ (ltb 0 (l .0) && ltb (x .steps .0) (l .0)) → r ≡ heldFits task h
-found-held task e f h = rw e (rw f at h)
-
-pub found-taken : (m : ℕ) {h : Held} {x : Section} {r : Bool} → h ≡ In x → r ≡ has m (x .resource) → r ≡ isTaken m h
-found-taken m e h = rw e h
+pub found-section : (task : Task) (h : Stack) (i : ℕ) {l : Steps} {r : Bool} → l ≡ steps (limit task (sectionAt h i .resource))
+    → r ≡ (ltb 0 (l .0) && (ltb (sectionAt h i .steps .0) (l .0) && not (some (λ m. eqb (sectionAt h m .resource) (sectionAt h i .resource)) i)))
+    → r ≡ sectionFits task h i
+found-section task h i e g = rw e at g
 
 -- ---- the mark
 
@@ -68,11 +66,11 @@ pub found-marks : {a b : Mark} {l m : Place} {r : Bool} → a ≡ At l → b ≡
 found-marks e f h = rw (e, f) h
 
 module _ (s : State) {a : Runner} {p : ℕ} (e : a ≡ Runs.Job p) where
-  pub found-begun : {r : Bool} → r ≡ jobAt s p .started → r ≡ hasBegun s a
-  found-begun h = rw e h
+  pub found-begun : {r : Bool} → r ≡ readAt s p .started → r ≡ hasBegun s a
+  found-begun h = rw e (h ∙ read-same (λ j. j .started) refl s p)
 
   pub found-past : 16 ≤ p → length (s .jobs) ≡ 16 → false ≡ hasBegun s a
-  found-past l long = found-begun (sym (ap (λ (j : Job). j .started) (List·getD-eq-default (s .jobs) noJob (omega arith))))
+  found-past l long = found-begun (sym (ap (λ (j : Job). j .started) (List·getD-eq-default (s .jobs) pastJob (omega arith))))
 
 pub found-second : (t : Table) (s : State) {h : Half} {u : Turn} {r : Bool} → h ≡ Second → u ≡ turn t s → r ≡ unchanged s u → r ≡ halfFits t s h
 found-second t s e f h = rw (e, ← f) h

@@ -2,12 +2,12 @@
 use Prim.Native.Nat.{ℕ, _≤_, _<_}
 use mathlib.Core.Path.{_≡_, refl, sym, ap, _∙_}
 use mathlib.Core.List.{List}
-use mathlib.Core.Bool.{Bool, true, false, cond, _&&_, false≢true}
+use mathlib.Core.Bool.{Bool, true, false, cond, _&&_, _||_, false≢true}
 use mathlib.Core.Logic.{_⊎_, inl, inr}
 use native.Mathlib.Omega.{arith}
 use lib.ListN.{set}
-use lib.Dec.{eqb}
-use borrow.Author.Tests.{eq-eqb, ne-eqb, eqb-true, eqb-false}
+use lib.Dec.{leb, eqb}
+use borrow.Author.Tests.{eq-eqb, ne-eqb, eqb-true, eqb-false, leb-false}
 use Rattle.units.specs.Clock.{distance}
 use Rattle.units.specs.Folds.{some}
 use Rattle.units.specs.Sets.{has}
@@ -19,8 +19,6 @@ use Rattle.table.specs.Table.{taskAt, limit}
 use Rattle.state.specs.declared.Job.{Job}
 use Rattle.state.specs.declared.State.{State}
 use Rattle.state.specs.declared.Answer.{Answer}
-use Rattle.state.specs.declared.Held.{Held}
-use Rattle.state.specs.declared.Held.the-variants.{Nothing, In}
 use Rattle.state.specs.declared.Runner.{Runner}
 use Rattle.state.specs.declared.Runner.the-variants as Runs
 use Rattle.state.specs.declared.Report.{Report}
@@ -35,13 +33,18 @@ use Rattle.report.specs.Report.{worked, settled, objection, closed, late
 
 -- ---- the objections: 14, 13, 15
 
-holding-any : (h : Held) → holdsAny h ≡ false → h ≡ Nothing
-holding-any Nothing e = refl
-holding-any (In x) e = absurd (false≢true (sym e))
+-- it can be taken: this job does not hold it, and it would be no fifth
+pub record Open (j : Job) (r : ℕ) : Type 0 where
+  pub free : holds r (j .held) ≡ false
+  pub room : j .held .depth < 4
+
+none : (a b : Bool) → (a || b) ≡ false → (a ≡ false) × (b ≡ false)
+none true b h = absurd (false≢true (sym h))
+none false b h = (refl, h)
 
 -- what is known of a report that no objection meets
 pub record Fair (task : Task) (j : Job) (held : ℕ) (said : Report) : Type 0 where
-  pub takes : (r : ℕ) → said ≡ Take r → (j .held ≡ Nothing) × (0 < limit task r) × (has held r ≡ false)
+  pub takes : (r : ℕ) → said ≡ Take r → Open j r × (0 < limit task r) × (has held r ≡ false)
 
 abbrev wants : Report → Bool
 wants CarryOn = false
@@ -55,15 +58,18 @@ wanted Done = 0
 wanted (Take r) = r
 wanted Give = 0
 
+pub can-take : (j : Job) (r : ℕ) → (holds r (j .held) || leb 4 (j .held .depth)) ≡ false → Open j r
+can-take j r e = let w = none _ _ e in record { free = w .0; room = leb-false 4 (j .held .depth) (w .1) }
+
 -- a report that one meets
 pub data Objection (task : Task) (j : Job) (held n : ℕ) : Type 0 where
   holding : n ≡ 14 → Objection task j held n
   never : n ≡ 13 → Objection task j held n
-  taken : (r : ℕ) → j .held ≡ Nothing → 0 < limit task r → has held r ≡ true → n ≡ 15 → Objection task j held n
+  taken : (r : ℕ) → Open j r → 0 < limit task r → has held r ≡ true → n ≡ 15 → Objection task j held n
 
 pub objection-is : (task : Task) (j : Job) (held : ℕ) (said : Report)
     → ((objection task j held said ≡ 0) × Fair task j held said) ⊎ Objection task j held (objection task j held said)
-objection-is task j held said = go said (holdsAny (j .held)) refl
+objection-is task j held said = go said
   where
     some-limit : (r : ℕ) → eqb (limit task r) 0 ≡ false → 0 < limit task r
     some-limit r f = pos (limit task r) (eqb-false (limit task r) 0 f)
@@ -74,7 +80,13 @@ objection-is task j held said = go said (holdsAny (j .held)) refl
     of : Bool → Bool → ℕ
     of l b = cond l 13 (cond b 15 0)
 
-    more : (r : ℕ) → j .held ≡ Nothing → (l : Bool) → eqb (limit task r) 0 ≡ l → (b : Bool) → has held r ≡ b
+    got : Bool → ℕ → ℕ
+    got b n = cond b 14 n
+
+    given : Bool → ℕ
+    given b = cond b 0 14
+
+    more : (r : ℕ) → Open j r → (l : Bool) → eqb (limit task r) 0 ≡ l → (b : Bool) → has held r ≡ b
         → ((of l b ≡ 0) × Fair task j held (Take r)) ⊎ Objection task j held (of l b)
     more r e true f b g = inr (never refl)
     more r e false f true g = inr (taken r e (some-limit r f) g refl)
@@ -83,14 +95,32 @@ objection-is task j held said = go said (holdsAny (j .held)) refl
     free : (said : Report) → wants said ≡ false → Fair task j held said
     free said h = record { takes = λ r e. absurd (false≢true (sym h ∙ ap wants e)) }
 
-    go : (said : Report) (b : Bool) → holdsAny (j .held) ≡ b
-        → ((objection task j held said ≡ 0) × Fair task j held said) ⊎ Objection task j held (objection task j held said)
-    go CarryOn b e = inl (refl, free CarryOn refl)
-    go Done b e = inl (refl, free Done refl)
-    go Give true e = rw e (inl (refl, free Give refl))
-    go Give false e = rw e (inr (holding refl))
-    go (Take r) true e = rw e (inr (holding refl))
-    go (Take r) false e = rw e (more r (holding-any (j .held) e) (eqb (limit task r) 0) refl (has held r) refl)
+    give : (b : Bool) → holdsAny (j .held) ≡ b → ((given b ≡ 0) × Fair task j held Give) ⊎ Objection task j held (given b)
+    give true e = inl (refl, free Give refl)
+    give false e = inr (holding refl)
+
+    take : (r : ℕ) (b : Bool) → (holds r (j .held) || leb 4 (j .held .depth)) ≡ b
+        → ((got b (of (eqb (limit task r) 0) (has held r)) ≡ 0) × Fair task j held (Take r)) ⊎ Objection task j held (got b (of (eqb (limit task r) 0) (has held r)))
+    take r true e = inr (holding refl)
+    take r false e = more r (can-take j r e) (eqb (limit task r) 0) refl (has held r) refl
+
+    go : (said : Report) → ((objection task j held said ≡ 0) × Fair task j held said) ⊎ Objection task j held (objection task j held said)
+    go CarryOn = inl (refl, free CarryOn refl)
+    go Done = inl (refl, free Done refl)
+    go Give = give (holdsAny (j .held)) refl
+    go (Take r) = take r (holds r (j .held) || leb 4 (j .held .depth)) refl
+
+pub fair : (task : Task) (j : Job) (held : ℕ) (said : Report) → objection task j held said ≡ 0 → Fair task j held said
+fair task j held said e = go (objection-is task j held said)
+  where
+    met : Objection task j held (objection task j held said) → ⊥
+    met (holding f) = omega (arith, e, f)
+    met (never f) = omega (arith, e, f)
+    met (taken r x y z f) = omega (arith, e, f)
+
+    go : ((objection task j held said ≡ 0) × Fair task j held said) ⊎ Objection task j held (objection task j held said) → Fair task j held said
+    go (inl w) = w .1
+    go (inr o) = absurd (met o)
 
 -- none meets a job that carries on
 pub carrying : (task : Task) (j : Job) (held : ℕ) → (objection task j held CarryOn ≡ 0) × Fair task j held CarryOn
