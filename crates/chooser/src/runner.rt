@@ -1,15 +1,16 @@
 // Top, whether it is blocked, and the runner.
 ghost use mathlib.Core.Path.{_≡_};
-ghost use mathlib.Core.Bool.{_&&_};
+ghost use mathlib.Core.Bool.{true, cond, _&&_};
 ghost use Prim.Native.Nat.{_<_};
 ghost use lib.ListN.{getD};
 ghost use Rattle.units.specs.Amounts.{ticks};
 ghost use Rattle.state.specs.Order.{positionOf, firstInOrder, isPending};
-ghost use Rattle.choice.specs.Choice.{bars, blocked, runner, begin};
+ghost use Rattle.choice.specs.Choice.{sectionBars, bars, blocked, runner, begin};
 use crate::order;
-use state::Held;
 use state::Job;
 use state::Runner;
+use state::Section;
+use state::Stack;
 use state::State;
 use table::Table;
 use units::Ticks;
@@ -32,14 +33,33 @@ fn ceiling(ceilings: [Ticks; 8], resource: u8) -> Ticks
     Ticks(0)
 }
 
-// What is held has a ceiling that is at most the deadline.
-fn bars(ceilings: [Ticks; 8], deadline: Ticks, held: Held) -> bool
+// Barred before, or by a section that counts: its resource has a ceiling that is at most the deadline.
+fn barred(
+    before: bool,
+    counts: bool,
+    ceilings: [Ticks; 8],
+    deadline: Ticks,
+    section: Section,
+) -> bool
+    ensures { λ r. ⌜ r ≡ cond (counts && sectionBars ceilings (deadline .0) section) true before ⌝ }
+{
+    if counts {
+        return before || ceiling(ceilings, section.resource).0 <= deadline.0;
+    }
+    before
+}
+
+// Whether some section that is held bars the deadline.
+fn bars(ceilings: [Ticks; 8], deadline: Ticks, held: Stack) -> bool
     ensures { λ r. ⌜ r ≡ bars ceilings (deadline .0) held ⌝ }
 {
-    match held {
-        Held::Nothing => false,
-        Held::In(section) => ceiling(ceilings, section.resource).0 <= deadline.0,
+    let mut found = false;
+    for i in 0..Stack::PLACES {
+        let section = held.sections[i];
+        let counts = i < (held.depth as usize);
+        found = barred(found, counts, ceilings, deadline, section);
     }
+    found
 }
 
 // The job stands in the way of a level: it is another, it is there, and what it holds bars the level.

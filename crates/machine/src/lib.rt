@@ -1,12 +1,12 @@
 // The machine's calls, for any table and any state.
 ghost use mathlib.Core.Path.{_≡_};
 ghost use Rattle.machine.specs.Machine.{midTick, released, release, choose, report};
-use consistency::consistent;
+use checker::consistent;
 use state::Answer;
 use state::Half;
-use state::Held;
 use state::Job;
 use state::Report;
+use state::Stack;
 use state::State;
 use table::Table;
 use table::Task;
@@ -33,7 +33,7 @@ fn released(task: Task, now: Tick) -> Job
         started: false,
         deadline,
         used: Steps(0),
-        held: Held::Nothing,
+        held: Stack::EMPTY,
         wait,
     }
 }

@@ -1,45 +1,17 @@
 // What a tick and its report do to the runner's job.
 ghost use mathlib.Core.Path.{_≡_};
-ghost use mathlib.Core.Bool.{cond, _||_};
-ghost use Prim.Native.Nat.{_+_, min};
-ghost use Rattle.units.specs.Amounts.{steps};
-ghost use Rattle.report.specs.Report.{heldOn, worked, ended, holding, atLimit, settled};
+ghost use Prim.Native.Nat.{ℕ, _<_};
+ghost use Rattle.state.specs.declared.Report.the-variants.{Take};
+ghost use Rattle.report.specs.Report.{worked, ended, holding, onward, settled};
+use crate::sections;
 use report::Outcome;
 use state::Answer;
-use state::Held;
 use state::Job;
 use state::Report;
-use state::Section;
+use state::Stack;
 use table::Task;
 use units::Steps;
 use units::Tick;
-
-// Steps with those of a tick, up to the most that count.
-fn risen(before: Steps, tick: Steps, most: Steps) -> Steps
-    ensures { λ r. ⌜ r ≡ steps (min (before .0 + tick .0) (most .0)) ⌝ }
-{
-    let sum = (before.0 as u32) + (tick.0 as u32);
-    if sum < (most.0 as u32) {
-        return Steps(sum as u16);
-    }
-    most
-}
-
-fn held_on(task: Task, speed: u8, held: Held) -> Held
-    ensures { λ r. ⌜ r ≡ heldOn task speed held ⌝ }
-{
-    match held {
-        Held::Nothing => Held::Nothing,
-        Held::In(section) => {
-            let most = task.limit(section.resource);
-            let steps = risen(section.steps, Steps::given(speed), most);
-            Held::In(Section {
-                resource: section.resource,
-                steps,
-            })
-        }
-    }
-}
 
 // The job with the steps of its tick.
 pub(crate) fn worked(task: Task, speed: u8, job: Job) -> Job
@@ -47,8 +19,8 @@ pub(crate) fn worked(task: Task, speed: u8, job: Job) -> Job
 {
     let before = job.held;
     let most = task.budget;
-    let used = risen(job.used, Steps::given(speed), most);
-    let mut next = holding(held_on(task, speed, before), job);
+    let used = sections::rise(job.used, Steps::given(speed), most);
+    let mut next = holding(sections::held_on(task, speed, before), job);
     next.used = used;
     next
 }
@@ -62,12 +34,12 @@ fn ended(job: Job) -> Job
         started: false,
         deadline: Tick(0),
         used: Steps(0),
-        held: Held::Nothing,
+        held: Stack::EMPTY,
         wait,
     }
 }
 
-fn holding(held: Held, job: Job) -> Job
+fn holding(held: Stack, job: Job) -> Job
     ensures { λ r. ⌜ r ≡ holding held job ⌝ }
 {
     let deadline = job.deadline;
@@ -83,57 +55,44 @@ fn holding(held: Held, job: Job) -> Job
     }
 }
 
-fn at_limit(task: Task, held: Held) -> bool
-    ensures { λ r. ⌜ r ≡ atLimit task held ⌝ }
+fn cut(job: Job) -> Outcome
+    ensures { λ r. ⌜ r ≡ record { job = ended job; ending = 2 } ⌝ }
 {
-    match held {
-        Held::Nothing => false,
-        Held::In(section) => section.steps.0 == task.limit(section.resource).0,
+    Outcome {
+        job: ended(job),
+        ending: Answer::CUT,
     }
 }
 
-// The budget is used up, or the section's limit is reached.
-fn stopped(task: Task, spent: bool, held: Held) -> bool
-    ensures { λ r. ⌜ r ≡ spent || atLimit task held ⌝ }
+// Cut by the budget, or by the limit of a section that it holds then; else it goes on.
+fn onward(task: Task, job: Job, held: Stack) -> Outcome
+    ensures { λ r. ⌜ r ≡ onward task job held ⌝ }
 {
-    spent || at_limit(task, held)
-}
-
-// The job, cut; or what it goes on as.
-fn cut_if(cut: bool, job: Job, after: Job) -> Outcome
-    ensures { λ r. ⌜ r ≡ cond cut (record { job = ended job; ending = 2 }) (record { job = after; ending = 0 }) ⌝ }
-{
-    if cut {
-        return Outcome {
-            job: ended(job),
-            ending: Answer::CUT,
-        };
+    if job.used.0 == task.budget.0 {
+        return cut(job);
+    }
+    if sections::at_limit(task, held) {
+        return cut(job);
     }
     Outcome {
-        job: after,
+        job: holding(held, job),
         ending: 0,
     }
 }
 
-// Done; else the budget; else take or give; else the section's limit.
+// Done; else it goes on with the sections that the report leaves it, or is cut. A take finds room: a fifth was refused.
 pub(crate) fn settled(task: Task, said: Report, job: Job) -> Outcome
+    requires { ⌜ ((r : ℕ) → said ≡ Take r → job .held .depth < 4) ⌝ }
     ensures { λ r. ⌜ r ≡ settled task said job ⌝ }
 {
-    let spent = job.used.0 == task.budget.0;
+    let held = job.held;
     match said {
         Report::Done => Outcome {
             job: ended(job),
             ending: Answer::DONE,
         },
-        Report::CarryOn => {
-            let held = job.held;
-            cut_if(stopped(task, spent, held), job, job)
-        }
-        Report::Take(resource) => {
-            let steps = Steps(0);
-            let held = Held::In(Section { resource, steps });
-            cut_if(spent, job, holding(held, job))
-        }
-        Report::Give => cut_if(spent, job, holding(Held::Nothing, job)),
+        Report::CarryOn => onward(task, job, held),
+        Report::Take(resource) => onward(task, job, sections::taken(resource, held)),
+        Report::Give => onward(task, job, sections::given_back(held)),
     }
 }

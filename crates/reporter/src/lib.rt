@@ -13,6 +13,7 @@ use table::Table;
 mod closing;
 mod endings;
 mod objection;
+mod sections;
 
 // The answer, with the tick closed.
 fn finished(state: State, jobs: [Job; 16], turn: Turn, ending: u8) -> Answer

@@ -1,3 +1,4 @@
+use Rattle.units.specs.Folds.{over, listed}
 use borrow.Author.Needs.{needs}
 use Rattle.machine.proofs.released.Statement.{statement}
 use Rattle.machine.proofs.released.Tie as tie
@@ -6,6 +7,7 @@ after-requires : tie.Need-after-requires
 after-requires c κs = search needs
 
 returns : tie.Need-returns
+unfolding listed over
 returns c = rw (c .before .after .ensures)
 
 pub released-spec : {M : Type 1} → statement M

@@ -1,17 +1,30 @@
-use Prim.Native.Nat.{_≤_, _-_}
+use Prim.Native.Nat.{ℕ, _+_, _-_, _≤_, min}
 use mathlib.Core.Path.{_≡_, refl, _∙_, ap}
-use mathlib.Core.Bool.{cond}
+use mathlib.Core.Bool.{Bool, cond}
 use native.Mathlib.Omega.{arith}
 use Rattle.units.specs.Folds.{over, smallest}
+use Rattle.state.specs.declared.Job.{Job}
+use Rattle.state.specs.declared.State.{State}
 use Rattle.state.specs.State.{jobAt}
-use Rattle.state.specs.Order.{firstInOrder, placeAt, noPlace, isStarted, isPending}
+use Rattle.state.specs.Order.{place, firstInOrder, placeAt, noPlace, isStarted, isPending}
+use Rattle.state.proofs.Laws.Past.{readAt, read-same, read-place}
 use Rattle.units.proofs.Laws.Loops.{smallest-yet}
 use borrow.Author.Needs.{needs}
 use Rattle.chooser.proofs.order.first.Statement.{statement}
 use Rattle.chooser.proofs.order.first.Tie as tie
 
+abbrev wanted : Bool → Job → Bool
+wanted started j = cond started (isStarted j) (isPending j)
+
+abbrev counts : Bool → State → ℕ → Bool
+counts started s k = wanted started (jobAt s k)
+
+again : (started : Bool) (s : State) (n : ℕ) {m m′ k : ℕ} {b : Bool} → m′ ≡ cond b (min m k) m → b ≡ wanted started (readAt s n) → k ≡ place (s .tick .0) (readAt s n .deadline .0) n
+    → m ≡ smallest (counts started s) (placeAt s) noPlace n → m′ ≡ smallest (counts started s) (placeAt s) noPlace (n + 1)
+again started s n h e g = smallest-yet _ n _ noPlace h (e ∙ read-same (wanted started) refl s n) (g ∙ read-place s n)
+
 abbrev Inv-loop : tie.InvT-loop
-Inv-loop started self best₀ k₀ best k = (k ≤ 16) × (best ≡ smallest (λ k. cond started (isStarted (jobAt self k)) (isPending (jobAt self k))) (placeAt self) noPlace k)
+Inv-loop started self best₀ k₀ best k = (k ≤ 16) × (best ≡ smallest (counts started self) (placeAt self) noPlace k)
 
 abbrev μ-loop : tie.MeasureT-loop
 μ-loop started self best₀ k₀ best k = 16 - k
@@ -45,7 +58,7 @@ loop-less : tie.Need-loop-less Inv-loop μ-loop
 loop-less c = search needs
 
 loop-again : tie.Need-loop-again Inv-loop μ-loop
-loop-again c = (omega arith, search smallest-yet)
+loop-again c = (omega arith, search again)
 
 returns : tie.Need-returns Inv-loop μ-loop
 unfolding firstInOrder

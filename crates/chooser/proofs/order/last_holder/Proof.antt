@@ -4,20 +4,24 @@ use mathlib.Core.Bool.{Bool, cond, _&&_}
 use native.Mathlib.Omega.{arith}
 use lib.Dec.{ltb}
 use Rattle.units.specs.Folds.{over, largest}
-use Rattle.units.proofs.Laws.Folds.{largest-next}
+use Rattle.units.proofs.Laws.Loops.{largest-yet}
+use Rattle.state.specs.declared.Job.{Job}
 use Rattle.state.specs.declared.State.{State}
 use Rattle.state.specs.State.{jobAt}
-use Rattle.state.specs.Order.{lastHolder, placeAt, isHolder}
+use Rattle.state.specs.Order.{place, lastHolder, placeAt, isHolder}
+use Rattle.state.proofs.Laws.Past.{readAt, read-same, read-place}
 use borrow.Author.Needs.{needs}
 use Rattle.chooser.proofs.order.last_holder.Statement.{statement}
 use Rattle.chooser.proofs.order.last_holder.Tie as tie
 
 abbrev counts : State → ℕ → ℕ → Bool
-counts s place k = isHolder (jobAt s k) && ltb place (placeAt s k)
+counts s at k = isHolder (jobAt s k) && ltb at (placeAt s k)
 
-again : (s : State) (place n : ℕ) {m m′ k : ℕ} {b : Bool} → m′ ≡ cond b (max m k) m → b ≡ isHolder (jobAt s n) && ltb place k → k ≡ placeAt s n
-    → m ≡ largest (counts s place) (placeAt s) n → m′ ≡ largest (counts s place) (placeAt s) (n + 1)
-again s place n h e g before = largest-next _ _ n before (h ∙ rw (e, g))
+again : (s : State) (at n : ℕ) {m m′ k : ℕ} {b : Bool} → m′ ≡ cond b (max m k) m → b ≡ isHolder (readAt s n) && ltb at k → k ≡ place (s .tick .0) (readAt s n .deadline .0) n
+    → m ≡ largest (counts s at) (placeAt s) n → m′ ≡ largest (counts s at) (placeAt s) (n + 1)
+again s at n h e g before =
+    let f = g ∙ read-place s n in
+    largest-yet (counts s at) n (placeAt s) h (e ∙ rw (f) (read-same (λ (j : Job). isHolder j && ltb at (placeAt s n)) refl s n)) f before
 
 abbrev Inv-loop : tie.InvT-loop
 Inv-loop behind self best₀ k₀ best k =

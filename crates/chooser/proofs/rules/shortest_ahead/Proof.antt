@@ -9,9 +9,11 @@ use Rattle.units.specs.Folds.{over, smallest}
 use Rattle.units.proofs.Laws.Folds.{smallest-next}
 use Rattle.table.specs.declared.Table.{Table}
 use Rattle.table.specs.Table.{D}
+use Rattle.state.specs.declared.Job.{Job}
 use Rattle.state.specs.declared.State.{State}
 use Rattle.state.specs.State.{jobAt}
-use Rattle.state.specs.Order.{placeAt}
+use Rattle.state.specs.Order.{place, placeAt}
+use Rattle.state.proofs.Laws.Past.{readAt, read-same, read-place}
 use Rattle.choice.specs.Choice.{shortestAhead}
 use borrow.Author.Needs.{needs}
 use Rattle.chooser.proofs.rules.shortest_ahead.Statement.{statement}
@@ -20,9 +22,10 @@ use Rattle.chooser.proofs.rules.shortest_ahead.Tie as tie
 abbrev ahead : State → ℕ → ℕ → Bool
 ahead s run k = jobAt s k .pending && ltb (placeAt s k) run
 
-again : (t : Table) (s : State) (run n : ℕ) {m m′ : Ticks} {k : ℕ} {b : Bool} → m′ ≡ ticks (cond b (min (m .0) (D t n)) (m .0)) → b ≡ jobAt s n .pending && ltb k run → k ≡ placeAt s n
-    → m .0 ≡ smallest (ahead s run) (D t) 65535 n → m′ .0 ≡ smallest (ahead s run) (D t) 65535 (n + 1)
-again t s run n h e g before = smallest-next _ _ _ n before (ap (λ (d : Ticks). d .0) h ∙ rw (e, g))
+again : (t : Table) (s : State) (run n : ℕ) {m m′ : Ticks} {k : ℕ} {b : Bool} → m′ ≡ ticks (cond b (min (m .0) (D t n)) (m .0)) → b ≡ readAt s n .pending && ltb k run
+    → k ≡ place (s .tick .0) (readAt s n .deadline .0) n → m .0 ≡ smallest (ahead s run) (D t) 65535 n → m′ .0 ≡ smallest (ahead s run) (D t) 65535 (n + 1)
+again t s run n h e g before =
+    smallest-next _ _ _ n before (ap (λ (d : Ticks). d .0) h ∙ rw (e, g, read-place s n, read-same (λ (j : Job). j .pending) refl s n))
 
 abbrev Inv-loop : tie.InvT-loop
 Inv-loop run table state best₀ k₀ best k =

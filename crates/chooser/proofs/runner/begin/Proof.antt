@@ -1,16 +1,20 @@
 use Prim.Native.Nat.{ℕ, _≤_}
 use mathlib.Core.Path.{_≡_, sym}
 use native.Mathlib.Nat.{le-trans, le-of-eq}
-use lib.ListN.{length}
+use lib.ListN.{length, set}
 use lib.Seq.{set-out}
 use Rattle.units.proofs.Laws.Folds.{long}
 use Rattle.state.specs.declared.State.{State}
 use Rattle.state.specs.declared.Runner.{Runner}
 use Rattle.state.specs.declared.Runner.the-variants as Runs
-use Rattle.choice.specs.Choice.{begin}
+use Rattle.choice.specs.Choice.{begun, begin}
+use Rattle.state.proofs.Laws.Past.{readAt, written-same}
 use borrow.Author.Needs.{needs}
 use Rattle.chooser.proofs.runner.begin.Statement.{statement}
 use Rattle.chooser.proofs.runner.begin.Tie as tie
+
+set-there : (s : State) (r : Runner) (k : ℕ) → r ≡ Runs.Job k → set (s .jobs) k (begun (readAt s k)) ≡ begin s r
+set-there s r k e = rw e (written-same begun s k)
 
 -- past the end nobody is started
 unset : (s : State) (r : Runner) (k : ℕ) → r ≡ Runs.Job k → 16 ≤ k → length (s .jobs) ≡ 16 → s .jobs ≡ begin s r
@@ -41,7 +45,7 @@ returns : tie.Need-returns
 returns c = search needs
 
 returns-2 : tie.Need-returns-2
-returns-2 c = rw (c .before .before .before .runner .given .1)
+returns-2 c = search set-there
 
 returns-3 : tie.Need-returns-3
 returns-3 c = search (needs, long, unset)

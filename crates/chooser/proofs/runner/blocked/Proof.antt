@@ -1,4 +1,4 @@
-use Prim.Native.Nat.{ℕ, _-_, _≤_, _<_}
+use Prim.Native.Nat.{ℕ, _+_, _-_, _≤_, _<_}
 use mathlib.Core.Path.{_≡_, refl, sym, _∙_}
 use mathlib.Core.Bool.{Bool, true, false, not, _&&_}
 use mathlib.Core.List.{List}
@@ -9,27 +9,49 @@ use Rattle.units.specs.Folds.{over, some}
 use Rattle.units.proofs.Laws.Folds.{some-holds}
 use Rattle.table.specs.declared.Table.{Table}
 use Rattle.table.specs.Table.{D, ceilings}
+use Rattle.state.specs.declared.Job.{Job}
 use Rattle.state.specs.declared.State.{State}
+use Rattle.state.specs.Stack.{anyOn}
 use Rattle.state.specs.State.{jobAt}
+use Rattle.state.proofs.Laws.Past.{readAt, read-same}
 use Rattle.choice.specs.Choice.{bars, blocked}
 use Rattle.units.proofs.Laws.Loops.{none-yet}
 use borrow.Author.Needs.{needs}
 use Rattle.chooser.proofs.runner.blocked.Statement.{statement}
 use Rattle.chooser.proofs.runner.blocked.Tie as tie
 
--- the job at k stands in the way of the one at p
+-- a job at k stands in the way of the one at p
+abbrev inWay : List Ticks → ℕ → ℕ → ℕ → Job → Bool
+inWay c d p k j = bars c d (j .held) && (j .pending && not (eqb k p))
+
 abbrev stands : List Ticks → State → ℕ → ℕ → ℕ → Bool
-stands c s d p k = bars c d (jobAt s k .held) && (jobAt s k .pending && not (eqb k p))
+stands c s d p k = inWay c d p k (jobAt s k)
+
+module _ (c : List Ticks) (s : State) (d p k : ℕ) {b : Bool} where
+  read : b ≡ inWay c d p k (readAt s k) → b ≡ stands c s d p k
+  unfolding anyOn some over
+  read e = e ∙ read-same (inWay c d p k) refl s k
+
+  again : b ≡ false → b ≡ inWay c d p k (readAt s k) → some (stands c s d p) k ≡ false → some (stands c s d p) (k + 1) ≡ false
+  again f e = none-yet (stands c s d p) k f (read e)
 
 -- of a job that is not started, with the ceilings
-module _ (t : Table) (s : State) (p : ℕ) (h : jobAt s p .started ≡ false) (c : List Ticks) (e : c ≡ ceilings t) where
-  one : (k : ℕ) → k < 16 → (b : Bool) → b ≡ true → b ≡ stands c s (D t p) p k → true ≡ blocked t s p
+module _ (t : Table) (s : State) (p : ℕ) where
+  started : readAt s p .started ≡ true → false ≡ blocked t s p
   unfolding blocked
-  one k l b y f = rw (h, ← e) (sym (some-holds _ 16 k l (sym f ∙ y)))
+  started e = rw (← read-same (λ (j : Job). j .started) refl s p, e)
 
-  none : (k : ℕ) → k ≤ 16 → 16 ≤ k → some (stands c s (D t p) p) k ≡ false → false ≡ blocked t s p
-  unfolding blocked
-  none k l m f = let z : k ≡ 16 = omega arith in rw (h, ← e) (sym (rw z at f))
+  module _ (f : readAt s p .started ≡ false) (c : List Ticks) (e : c ≡ ceilings t) where
+    waits : jobAt s p .started ≡ false
+    waits = sym (read-same (λ (j : Job). j .started) refl s p) ∙ f
+
+    one : (k : ℕ) → k < 16 → (b : Bool) → b ≡ true → b ≡ inWay c (D t p) p k (readAt s k) → true ≡ blocked t s p
+    unfolding blocked
+    one k l b y g = rw (waits, ← e) (sym (some-holds _ 16 k l (sym (read c s (D t p) p k g) ∙ y)))
+
+    none : (k : ℕ) → k ≤ 16 → 16 ≤ k → some (stands c s (D t p) p) k ≡ false → false ≡ blocked t s p
+    unfolding blocked
+    none k l m g = let z : k ≡ 16 = omega arith in rw (waits, ← e) (sym (rw z at g))
 
 abbrev Inv-loop : tie.InvT-loop
 Inv-loop top state task ceilings k₀ k =
@@ -45,8 +67,7 @@ element-copy-out-job : tie.Need-element-copy-out-job Inv-loop μ-loop
 element-copy-out-job c = search needs
 
 returns : tie.Need-returns Inv-loop μ-loop
-unfolding blocked
-returns c = rw (c .if1 .taken)
+returns c = search started
 
 mul-task : tie.Need-mul-task Inv-loop μ-loop
 mul-task c = search needs
@@ -80,7 +101,7 @@ loop-less : tie.Need-loop-less Inv-loop μ-loop
 loop-less c = search needs
 
 loop-again : tie.Need-loop-again Inv-loop μ-loop
-loop-again c = (omega arith, search none-yet)
+loop-again c = (omega arith, search again)
 
 returns-3 : tie.Need-returns-3 Inv-loop μ-loop
 returns-3 c = search none

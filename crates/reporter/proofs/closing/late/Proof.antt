@@ -1,4 +1,4 @@
-use Prim.Native.Nat.{ℕ, _-_, _≤_, _<_}
+use Prim.Native.Nat.{ℕ, _+_, _-_, _≤_, _<_}
 use mathlib.Core.Path.{_≡_, refl, sym, ap, _∙_}
 use mathlib.Core.Bool.{Bool, true, false, _&&_}
 use native.Mathlib.Omega.{arith}
@@ -6,20 +6,29 @@ use lib.Dec.{eqb}
 use Rattle.units.specs.Clock.{distance}
 use Rattle.units.specs.Folds.{over, some}
 use Rattle.units.proofs.Laws.Folds.{some-holds}
+use Rattle.state.specs.declared.Job.{Job}
 use Rattle.state.specs.declared.State.{State}
 use Rattle.state.specs.State.{jobAt}
 use Rattle.units.proofs.Laws.Loops.{none-yet}
+use Rattle.state.proofs.Laws.Past.{readAt, read-same}
 use Rattle.report.specs.Report.{late}
 use borrow.Author.Needs.{needs}
 use Rattle.reporter.proofs.closing.late.Statement.{statement}
 use Rattle.reporter.proofs.closing.late.Tie as tie
 
-abbrev stands : State → ℕ → Bool
-stands s k = jobAt s k .pending && eqb (distance (s .tick .0) (jobAt s k .deadline .0)) 0
+abbrev at : State → Job → Bool
+at s j = j .pending && eqb (distance (s .tick .0) (j .deadline .0)) 0
 
-one : (s : State) (k : ℕ) → k < 16 → (b : Bool) → b ≡ true → b ≡ stands s k → true ≡ late s
-unfolding late
-one s k l b h e = sym (some-holds (stands s) 16 k l (sym e ∙ h))
+abbrev stands : State → ℕ → Bool
+stands s k = at s (jobAt s k)
+
+module _ (s : State) (k : ℕ) {b : Bool} where
+  one : b ≡ true → k < 16 → b ≡ at s (readAt s k) → true ≡ late s
+  unfolding late
+  one h l e = sym (some-holds (stands s) 16 k l (sym (e ∙ read-same (at s) refl s k) ∙ h))
+
+  none : b ≡ false → b ≡ at s (readAt s k) → some (stands s) k ≡ false → some (stands s) (k + 1) ≡ false
+  none h e = none-yet (stands s) k h (e ∙ read-same (at s) refl s k)
 
 abbrev Inv-loop : tie.InvT-loop
 Inv-loop state k₀ k = (k ≤ 16) × (some (stands state) k ≡ false)
@@ -50,7 +59,7 @@ loop-less : tie.Need-loop-less Inv-loop μ-loop
 loop-less c = search needs
 
 loop-again : tie.Need-loop-again Inv-loop μ-loop
-loop-again c = (omega arith, search none-yet)
+loop-again c = (omega arith, search none)
 
 returns-2 : tie.Need-returns-2 Inv-loop μ-loop
 unfolding late

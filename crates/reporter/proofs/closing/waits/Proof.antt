@@ -6,15 +6,15 @@ use native.Mathlib.Omega.{arith}
 use lib.ListN.{length, getD, set}
 use Rattle.units.proofs.Laws.Folds.{long}
 use Rattle.state.specs.declared.Job.{Job}
-use Rattle.state.specs.State.{noJob}
+use Rattle.state.proofs.Laws.Past.{pastJob}
 use Rattle.report.specs.Report.{waited}
 use Rattle.units.proofs.Laws.Lists.{part, part-more, part-all}
 use borrow.Author.Needs.{needs}
 use Rattle.reporter.proofs.closing.waits.Statement.{statement}
 use Rattle.reporter.proofs.closing.waits.Tie as tie
 
-again : (l : List Job) (k : ℕ) {next : List Job} {j : Job} → j ≡ waited (getD next k noJob) → next ≡ part waited k l → set next k j ≡ part waited (k + 1) l
-again l k h before = rw (h, before) (part-more waited k l noJob)
+again : (l : List Job) (k : ℕ) {next : List Job} {j : Job} → j ≡ waited (getD next k pastJob) → next ≡ part waited k l → set next k j ≡ part waited (k + 1) l
+again l k h before = rw (h, before) (part-more waited k l pastJob)
 
 abbrev Inv-loop : tie.InvT-loop
 Inv-loop next₀ k₀ next k = (k ≤ 16) × (next ≡ part waited k next₀)

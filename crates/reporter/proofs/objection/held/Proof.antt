@@ -3,16 +3,18 @@ use mathlib.Core.Path.{_≡_, refl, _∙_, ap}
 use native.Mathlib.Omega.{arith}
 use Rattle.units.specs.Folds.{over, some}
 use Rattle.units.specs.Sets.{set}
+use Rattle.state.specs.declared.Job.{Job}
 use Rattle.state.specs.declared.State.{State}
-use Rattle.state.specs.State.{jobAt}
 use Rattle.state.specs.Order.{withHeld, heldResources}
+use Rattle.state.proofs.Laws.Past.{readAt, read-same}
 use Rattle.state.proofs.Laws.Holders.{heldBelow, held-next}
 use borrow.Author.Needs.{needs}
 use Rattle.reporter.proofs.objection.held.Statement.{statement}
 use Rattle.reporter.proofs.objection.held.Tie as tie
 
-again : (s : State) (k : ℕ) {found next : ℕ} → next ≡ withHeld found (jobAt s k .held) → found ≡ heldBelow s k → next ≡ heldBelow s (k + 1)
-again s k h before = h ∙ rw before (held-next s k _ refl)
+again : (s : State) (k : ℕ) {found next : ℕ} → next ≡ withHeld found (readAt s k .held) → found ≡ heldBelow s k → next ≡ heldBelow s (k + 1)
+unfolding over
+again s k {found} h before = h ∙ read-same (λ (j : Job). withHeld found (j .held)) refl s k ∙ rw before (held-next s k _ refl)
 
 abbrev Inv-loop : tie.InvT-loop
 Inv-loop self found₀ k₀ found k = (k ≤ 16) × (found ≡ heldBelow self k)

@@ -1,6 +1,7 @@
 use Prim.Native.Nat.{ℕ}
 use mathlib.Core.Path.{_≡_, ap}
-use mathlib.Core.Bool.{Bool, true, false, cond}
+use mathlib.Core.Bool.{Bool, true, false, cond, _||_}
+use lib.Dec.{leb}
 use borrow.Author.Tests.{eq-eqb, ne-eqb}
 use Rattle.units.specs.declared.Steps.{Steps}
 use Rattle.units.specs.Amounts.{steps}
@@ -9,15 +10,29 @@ use Rattle.table.specs.declared.Task.{Task}
 use Rattle.table.specs.Table.{limit}
 use Rattle.state.specs.declared.Job.{Job}
 use Rattle.state.specs.declared.Report.{Report}
-use Rattle.state.specs.declared.Report.the-variants.{Take}
-use Rattle.state.specs.Order.{holdsAny}
+use Rattle.state.specs.declared.Report.the-variants.{CarryOn, Done, Take, Give}
+use Rattle.state.specs.Order.{holdsAny, holds}
 use Rattle.report.specs.Report.{objection}
 use borrow.Author.Needs.{needs}
 use Rattle.reporter.proofs.objection.objection.Statement.{statement}
 use Rattle.reporter.proofs.objection.objection.Tie as tie
 
+module _ (task : Task) (j : Job) (held : ℕ) (said : Report) where
+  carries : said ≡ CarryOn → 0 ≡ objection task j held said
+  carries e = rw e
+
+  ends : said ≡ Done → 0 ≡ objection task j held said
+  ends e = rw e
+
+  module _ (e : said ≡ Give) (own : Bool) (f : own ≡ holdsAny (j .held)) where
+    gives : own ≡ true → 0 ≡ objection task j held said
+    gives h = rw (e, ← f, h)
+
+    has-none : own ≡ false → 14 ≡ objection task j held said
+    has-none h = rw (e, ← f, h)
+
 -- a take, in the order of its tests
-module _ (task : Task) (j : Job) (held : ℕ) (said : Report) (r : ℕ) (e : said ≡ Take r) (own : Bool) (f : own ≡ holdsAny (j .held)) where
+module _ (task : Task) (j : Job) (held : ℕ) (said : Report) (r : ℕ) (e : said ≡ Take r) (own : Bool) (f : own ≡ (holds r (j .held) || leb 4 (j .held .depth))) where
   holds-one : own ≡ true → 14 ≡ objection task j held said
   holds-one h = rw (e, ← f, h)
 
@@ -48,13 +63,13 @@ any-requires : tie.Need-any-requires
 any-requires c κs = search needs
 
 returns : tie.Need-returns
-returns c = search needs
+returns c = search gives
 
 enum-known-said : tie.Need-enum-known-said
 enum-known-said c = search needs
 
-any-requires-2 : tie.Need-any-requires-2
-any-requires-2 c κs = search needs
+held-or-fifth-requires : tie.Need-held-or-fifth-requires
+held-or-fifth-requires c κs = search needs
 
 returns-2 : tie.Need-returns-2
 returns-2 c = search holds-one
@@ -75,13 +90,13 @@ returns-4 : tie.Need-returns-4
 returns-4 c = search taken
 
 returns-5 : tie.Need-returns-5
-returns-5 c = search needs
+returns-5 c = search carries
 
 returns-6 : tie.Need-returns-6
-returns-6 c = search needs
+returns-6 c = search ends
 
 returns-7 : tie.Need-returns-7
-returns-7 c = search needs
+returns-7 c = search has-none
 
 returns-8 : tie.Need-returns-8
 returns-8 c = search free
@@ -96,7 +111,7 @@ objection-spec =
     any-requires
     returns
     enum-known-said
-    any-requires-2
+    held-or-fifth-requires
     returns-2
     limit-requires
     returns-3
