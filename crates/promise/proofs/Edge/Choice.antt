@@ -138,7 +138,7 @@ module _ {t : Table} {passed : Passed written t} {s : State} (good : Good passed
         holder = k;
         holder-pending = g .2;
         holder-other = g .3;
-        holder-left = left-barred t (taskAt t k) (D t first) (jobAt s k .held) (good .stands .jobs k (inside (passes passed) (good .stands) k (g .2)) .section) (g .1);
+        holder-left = left-barred t (taskAt t k) (D t first) (jobAt s k .held) (good .stands .jobs k (inside (passes passed) (good .stands) k (g .2)) .held) (g .1);
         started = runs-started t s ready some h;
         first = started-first h;
       }

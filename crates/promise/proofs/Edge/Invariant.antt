@@ -12,7 +12,7 @@ use Rattle.state.specs.declared.Job.{Job}
 use Rattle.state.specs.declared.Half.the-variants.{First, Second}
 use Rattle.state.specs.declared.Runner.the-variants as Runs
 use Rattle.state.specs.declared.State.{State}
-use Rattle.state.specs.State.{noJob, jobAt, empty}
+use Rattle.state.specs.State.{jobAt, empty}
 use Rattle.state.proofs.Laws.Fresh.{no-more, empty-is, empty-long, empty-job}
 use Rattle.state.specs.Order.{noPlace, isPending}
 use Rattle.state.proofs.Laws.Order.{first-le, place-lt}
@@ -20,7 +20,8 @@ use Rattle.choice.specs.Choice.{top}
 use Rattle.choice.proofs.Laws.Ready.{Ready}
 use Rattle.consistency.specs.Consistency.{consistent}
 use Rattle.machine.specs.Machine.{midTick}
-use Rattle.consistency.proofs.Laws.Facts.{Unchanged, Consistent, consistent-tells, consistent-holds, fresh-consistent}
+use Rattle.consistency.proofs.Laws.Jobs.{Unused}
+use Rattle.consistency.proofs.Laws.Facts.{Unchanged, Consistent, no-job-unused, consistent-tells, consistent-holds, fresh-consistent}
 use Rattle.consistency.proofs.Laws.Middle.{ready}
 use Rattle.promise.specs.History.{written}
 use Rattle.promise.specs.Promise.{Passed}
@@ -33,15 +34,15 @@ pub consistent-stands : (t : Table) (s : State) → Consistent t s → length (s
 consistent-stands t s c long now = record {
   long = long;
   now = now;
-  jobs = λ k l. let w = c .jobs k l in record { wait = w .wait; unstarted = w .unstarted; section = w .section; absent = w .absent };
+  jobs = λ k l. let w = c .jobs k l in record { wait = w .wait; unstarted = w .unstarted; stack = w .stack; held = w .held; absent = w .absent };
   past = λ k l. past k l (decLt k 16);
   once = c .once;
   mark = c .mark;
 }
   where
-    past : (k : ℕ) → t .count ≤ k → Dec (k < 16) → jobAt s k ≡ noJob
+    past : (k : ℕ) → t .count ≤ k → Dec (k < 16) → Unused (jobAt s k)
     past k l (yes h) = c .past k l h
-    past k l (no h) = no-more s k long h
+    past k l (no h) = rw (no-more s k long h) no-job-unused
 
 module _ {t : Table} (passed : Passed written t) where
   pub passes : Admitted t
@@ -95,7 +96,8 @@ module _ {t : Table} {passed : Passed written t} {s : State} (good : Good passed
     jobs = λ k l. let j = good .stands .jobs k l in record {
       wait = j .wait;
       unstarted = j .unstarted;
-      section = j .section;
+      stack = j .stack;
+      held = j .held;
       pending = λ e. let n = good .mid .numbers in record { used = n .used-C k e; ahead = n .distance-some k e; near = n .distance-D k e; wait = n .wait-is k e };
       absent = j .absent;
     };

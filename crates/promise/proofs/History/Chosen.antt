@@ -1,6 +1,6 @@
 -- Whom a choice names, by the whole list. Assumes nothing.
 use Prim.Native.Nat.{ℕ, _≤_, _<_}
-use mathlib.Core.Path.{_≡_, refl, sym, ap, _∙_}
+use mathlib.Core.Path.{_≡_, refl, sym, ap, _∙_, subst}
 use mathlib.Core.Bool.{Bool, true, false, false≢true}
 use mathlib.Core.List.{List}
 use mathlib.Core.Logic.{inl, inr}
@@ -11,23 +11,24 @@ use Rattle.table.specs.declared.Table.{Table}
 use Rattle.table.specs.Table.{D, ceiling, ceilings}
 use Rattle.state.specs.declared.Answer.{Answer}
 use Rattle.state.specs.declared.Section.{Section}
-use Rattle.state.specs.declared.Held.{Held}
-use Rattle.state.specs.declared.Held.the-variants.{Nothing, In}
+use Rattle.state.specs.declared.Stack.{Stack}
 use Rattle.state.specs.declared.Mark.the-variants.{Absent}
 use Rattle.state.specs.declared.Mode.the-variants.{Independent, Synchronization}
 use Rattle.state.specs.declared.Runner.the-variants as Runs
 use Rattle.state.specs.declared.State.{State}
+use Rattle.state.specs.Stack.{sectionAt}
 use Rattle.state.specs.State.{jobAt}
 use Rattle.state.specs.Order.{placeAt, positionOf, noPlace, isPending, isStarted}
 use Rattle.state.proofs.Laws.Order.{first-le, first-found, place-position, nearer-first, lower-first}
 use Rattle.choice.specs.declared.Turn.{Turn}
-use Rattle.choice.specs.Choice.{top, bars, blocked, runner, turn, choice}
-use Rattle.choice.proofs.Laws.Bars.{bars-held, bars-holds, bars-tells}
+use Rattle.state.proofs.Laws.Stacks.{On, on-tells, holds-at}
+use Rattle.choice.specs.Choice.{top, sectionBars, bars, blocked, runner, turn, choice}
+use Rattle.choice.proofs.Laws.Bars.{bars-holds, bars-tells}
 use Rattle.choice.proofs.Laws.Choice as Law
 use Rattle.choice.proofs.Laws.Ready.{blocked-tells, blocked-holds, runs-started}
 use Rattle.choice.proofs.Laws.Runner.{runs-top, nobody, runner-free, runner-blocked}
 use Rattle.machine.specs.Machine.{chosen}
-use Rattle.promise.specs.History.{written, Line, choose, answered, isReport, isChoice, section, hasStarted, latest, isThere, ticksLeft, Ahead}
+use Rattle.promise.specs.History.{written, Line, choose, answered, isReport, isChoice, sections, IsOpen, hasStarted, latest, isThere, ticksLeft, Ahead}
 use Rattle.promise.specs.Promise.{Passed, FirstBlocked}
 use Rattle.promise.proofs.Edge.Choice as Chosen
 use Rattle.promise.proofs.Edge.Invariant.{passes, Good, is-ready, some-top}
@@ -35,7 +36,8 @@ use Rattle.promise.proofs.Edge.View.{inside, below-16, takes-8}
 use Rattle.promise.proofs.Keep.Made.{Made, refused, takes-on, chooses, idles, runs}
 use Rattle.promise.proofs.Keep.Each.{keep}
 use Rattle.promise.proofs.History.Listed.{Listed}
-use Rattle.promise.proofs.History.Holds.{tells, pending-is}
+use Rattle.promise.proofs.History.Holds.{tells, pending-is, on-stack}
+use Rattle.promise.proofs.History.Places.{at-place}
 
 module _ {t : Table} {passed : Passed written t} {s : State} (good : Good passed s) {h : List Line} (listed : Listed t s h) where
   abbrev a : Answer
@@ -49,7 +51,7 @@ module _ {t : Table} {passed : Passed written t} {s : State} (good : Good passed
         go (refused n l e) = absurd (omega (arith, l, zero, ap (λ (b : Answer). b .number) e))
         go (takes-on p c l f e) = absurd (false≢true (sym (ap isChoice c)))
         go (idles c m r f e) = absurd (false≢true (ap isReport c))
-        go (runs p q c m r l f e) = absurd (false≢true (ap isReport c))
+        go (runs p q c m r l f g e) = absurd (false≢true (ap isReport c))
         go (chooses c e) = e
 
     -- what is read off the answer is read off the turn
@@ -92,19 +94,25 @@ module _ {t : Table} {passed : Passed written t} {s : State} (good : Good passed
       pending-k = ap (λ (i : ℕ). jobAt s i .pending) (sym same) ∙ Law.runner-pending t s (is-ready good) some
 
       -- one that starts: what another holds has a ceiling longer than its D
-      module _ (fresh : hasStarted k (latest k h) ≡ false) (i : ℕ) (x : Section) (other : i ≡ k → ⊥) (there-i : isThere t i h ≡ true) (e : section i (latest i h) ≡ In x) where
+      module _ (fresh : hasStarted k (latest k h) ≡ false) (i p : ℕ) (x : Section) (other : i ≡ k → ⊥) (there-i : isThere t i h ≡ true) (e : IsOpen (sections i (latest i h)) p x) where
         unstarted-k : jobAt s k .started ≡ false
         unstarted-k = tells good listed k pending-k .started ∙ fresh
 
         pending-i : jobAt s i .pending ≡ true
         pending-i = pending-is good listed i ∙ there-i
 
-        held-i : jobAt s i .held ≡ In x
-        held-i = tells good listed i pending-i .held ∙ e
+        abbrev held-i : Stack
+        held-i = jobAt s i .held
 
-        one-of-8 : x .resource < 8
-        one-of-8 =
-            takes-8 (passes passed) (good .stands) (λ j m. passed .limits j (omega (arith, passes passed .count .high)) m) i (inside (passes passed) (good .stands) i pending-i) x held-i
+        one-of-8 : (n : ℕ) → On held-i n → sectionAt held-i n .resource < 8
+        one-of-8 n o = takes-8 (passes passed) (good .stands) (λ j m. passed .limits j (omega (arith, passes passed .count .high)) m) i (inside (passes passed) (good .stands) i pending-i) n o
+
+        -- it stands on the stack, and bars what its ceiling bars
+        barring : ceiling t (x .resource) ≤ D t k → bars (ceilings t) (D t k) held-i ≡ true
+        barring l =
+            let w = on-stack good listed i p x there-i e in
+            let same : sectionAt held-i (w .0) .resource ≡ x .resource = ap (λ (x : Section). x .resource) (w .3) in
+            bars-holds t (D t k) (x .resource) held-i (rw (← same) (one-of-8 (w .0) (w .1))) (holds-at (x .resource) held-i (w .0) (w .1) (sym same)) l
 
         pub starts-free : D t k < ceiling t (x .resource)
         starts-free = go (blocked t s (positionOf (top s))) refl (decLt (D t k) (ceiling t (x .resource)))
@@ -114,8 +122,7 @@ module _ {t : Table} {passed : Passed written t} {s : State} (good : Good passed
             go true f (no l) = absurd (false≢true (sym unstarted-k ∙ ap (λ (p : ℕ). jobAt s p .started) (sym same) ∙ runs-started t s (is-ready good) some f))
             go false f (no l) =
                 let first : positionOf (top s) ≡ k = ap positionOf (sym (runner-free t s f)) ∙ same in
-                let barred : bars (ceilings t) (D t k) (jobAt s i .held) ≡ true = ap (bars (ceilings t) (D t k)) held-i ∙ bars-holds t (D t k) x one-of-8 (omega arith) in
-                absurd (false≢true (sym (sym (ap (blocked t s) first) ∙ f) ∙ blocked-holds t s k unstarted-k i (below-16 (passes passed) (good .stands) i pending-i, barred, pending-i, other)))
+                absurd (false≢true (sym (sym (ap (blocked t s) first) ∙ f) ∙ blocked-holds t s k unstarted-k i (below-16 (passes passed) (good .stands) i pending-i, barring (omega arith), pending-i, other)))
 
       near : (i : ℕ) → jobAt s i .pending ≡ true → distance (s .tick .0) (jobAt s i .deadline .0) ≡ ticksLeft t i h
       near i p = omega (arith, tells good listed i p .near)
@@ -130,10 +137,6 @@ module _ {t : Table} {passed : Passed written t} {s : State} (good : Good passed
 
       -- where top is blocked
       module _ (e : blocked t s (positionOf (top s)) ≡ true) where
-        in-section : (i : ℕ) (x : Held) → section i (latest i h) ≡ x → (x ≡ Nothing → ⊥) → (y : Section) × (section i (latest i h) ≡ In y)
-        in-section i Nothing q holds = absurd (holds refl)
-        in-section i (In y) q holds = (y, q)
-
         first-blocked : FirstBlocked t h
         first-blocked =
             let f = first-found s isPending some in
@@ -142,9 +145,9 @@ module _ {t : Table} {passed : Passed written t} {s : State} (good : Good passed
             let w = blocked-tells t s (positionOf (top s)) e .1 in
             let i = w .0 in
             let pending-i = w .1 .2 in
-            let held-is = tells good listed i pending-i .held in
-            let y = in-section i (section i (latest i h)) refl (λ z. bars-held _ _ _ (w .1 .1) (held-is ∙ z)) in
-            let one-of-8 = takes-8 (passes passed) (good .stands) (λ j m. passed .limits j (omega (arith, passes passed .count .high)) m) i (inside (passes passed) (good .stands) i pending-i) (y .0) (held-is ∙ y .1) in
+            let y = on-tells (sectionBars (ceilings t) (D t (positionOf (top s)))) (jobAt s i .held) (w .1 .1) in
+            let place = at-place (jobAt s i .held) (y .0) (y .1 .1) in
+            let one-of-8 = takes-8 (passes passed) (good .stands) (λ j m. passed .limits j (omega (arith, passes passed .count .high)) m) i (inside (passes passed) (good .stands) i pending-i) (y .0) (y .1) in
             record {
               first = p;
               there = sym (pending-is good listed p) ∙ f .2;
@@ -152,10 +155,11 @@ module _ {t : Table} {passed : Passed written t} {s : State} (good : Good passed
                   omega (arith, first-le s isPending q (below-16 (passes passed) (good .stands) q pending-q) pending-q, f .3, nearer q p pending-q (f .2) ahead);
               holder = i;
               other = λ z. w .1 .3 (z ∙ sym at);
-              held = y .0;
               holderThere = sym (pending-is good listed i) ∙ pending-i;
-              holds = y .1;
-              bars = bars-tells t (D t p) (y .0) one-of-8 (ap (bars (ceilings t) (D t p)) (sym (held-is ∙ y .1)) ∙ ap (λ (n : ℕ). bars (ceilings t) (D t n) (jobAt s i .held)) (sym at) ∙ w .1 .1);
+              inside = place .0;
+              held = sectionAt (jobAt s i .held) (y .0);
+              holds = subst (λ (l : List Section). IsOpen l (place .0) (sectionAt (jobAt s i .held) (y .0))) (tells good listed i pending-i .held) (place .1);
+              bars = bars-tells t (D t p) (sectionAt (jobAt s i .held) (y .0)) one-of-8 (ap (λ (n : ℕ). sectionBars (ceilings t) (D t n) (sectionAt (jobAt s i .held) (y .0))) (sym at) ∙ y .2);
             }
 
       -- one that is ahead of it has not started, and the first of all is blocked

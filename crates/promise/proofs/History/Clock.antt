@@ -37,7 +37,7 @@ module _ (now : ℕ) (s : State) (h : List Line) (was : s .tick ≡ tick (after 
   ticks-next t call a (chooses c e) = stays call a (ap (λ (q : Call). isTick (line q a)) c) (ap (λ (b : Answer). b .state .tick) e ∙ ap (λ (x : State). x .tick) (Law.choice-is t s))
   ticks-next t call a (idles c m r f e) =
       rises call a (ap (λ (q : Call). isTick (line q a)) c ∙ ap (λ (b : Answer). isTick (line (report CarryOn) b)) e) (ap (λ (b : Answer). b .state .tick) e)
-  ticks-next t call a (runs p said c m r l f e) =
+  ticks-next t call a (runs p said c m r l f g e) =
       rises call a (ap (λ (q : Call). isTick (line q a)) c ∙ ap (λ (b : Answer). isTick (line (report said) b)) e) (ap (λ (b : Answer). b .state .tick) e)
 
 module _ {t : Table} (passed : Passed written t) (now : ℕ) (small : now < 2 ^ 32) where

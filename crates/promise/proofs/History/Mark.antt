@@ -133,7 +133,7 @@ module _ {t : Table} {passed : Passed written t} {s : State} (good : Good passed
             → job .deadline .0 ≡ jobAt s p .deadline .0
         own (done q f) x = absurd (false≢true (sym (ap (λ (o : Outcome). holdsAny (o .job .held)) f) ∙ x))
         own (spent q f) x = absurd (false≢true (sym (ap (λ (o : Outcome). holdsAny (o .job .held)) f) ∙ x))
-        own (stopped q g f) x = absurd (false≢true (sym (ap (λ (o : Outcome). holdsAny (o .job .held)) f) ∙ x))
+        own (stopped g f) x = absurd (false≢true (sym (ap (λ (o : Outcome). holdsAny (o .job .held)) f) ∙ x))
         own (goes y u z f) x = ap (λ (o : Outcome). o .job .deadline .0) f
 
         go : Dec (k ≡ p) → (jobAt s k .pending ≡ true) × (jobAt next k .deadline .0 ≡ jobAt s k .deadline .0) × (placeAt s k ≤ markPlace (s .tick .0) (At m))
@@ -180,7 +180,7 @@ module _ {t : Table} {passed : Passed written t} {s : State} (good : Good passed
       go (yes l) = on-choice l
       go (no l) = no-mark (Chosen.chosenState t s) (ap (λ (u : Turn). u .mark) (Law.idle-turn t s (omega arith)))
   kept call a (idles c h r f e) = subst (λ (b : Answer). NoneBehind (b .state)) (sym e) (λ m q k x. absurd (f k (pending k (sym (ap (λ (j : Job). holdsAny (j .held)) (closed-at s (s .jobs) k)) ∙ x))))
-  kept call a (runs p said c h r l f e) = subst (λ (b : Answer). NoneBehind (b .state)) (sym e) (on-tick h p said r f)
+  kept call a (runs p said c h r l f g e) = subst (λ (b : Answer). NoneBehind (b .state)) (sym e) (on-tick h p said r f)
 
 module _ {t : Table} (passed : Passed written t) (now : ℕ) (small : now < 2 ^ 32) where
   none-behind : (calls : List Call) → NoneBehind (at passed now small calls)

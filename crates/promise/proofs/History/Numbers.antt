@@ -1,21 +1,23 @@
 -- The number of each call, by the whole list, and what a refusal and a release answer. Assumes nothing.
-use Prim.Native.Nat.{ℕ, _-_, _≤_, _<_}
-use mathlib.Core.Path.{_≡_, refl, sym, ap, _∙_}
-use mathlib.Core.Bool.{Bool, true, false, cond, false≢true}
+use Prim.Native.Nat.{ℕ, zero, suc, _-_, _≤_, _<_}
+use mathlib.Core.Path.{_≡_, refl, sym, ap, ap₂, _∙_}
+use mathlib.Core.Bool.{Bool, true, false, cond, _||_, false≢true}
 use mathlib.Core.List.{List}
 use mathlib.Core.Logic.{_⊎_, inl, inr}
 use mathlib.Core.Option.{Option, none, some}
 use native.Mathlib.Decide.{decLe, decLt}
 use native.Mathlib.Omega.{arith}
-use lib.Dec.{eqb, leb}
-use borrow.Author.Tests.{eq-eqb, ne-eqb, eqb-false, le-leb, lt-leb}
+use lib.ListN.{length}
+use lib.Dec.{eqb, ltb, leb}
+use borrow.Author.Tests.{eq-eqb, ne-eqb, eqb-false, le-leb, lt-leb, lt-ltb}
 use Rattle.units.specs.Sets.{has}
+use Rattle.units.proofs.Laws.Tests.{cond-yes}
 use Rattle.table.specs.declared.Table.{Table}
 use Rattle.table.specs.Table.{taskAt, limit}
 use Rattle.state.specs.declared.Answer.{Answer}
 use Rattle.state.specs.declared.Job.{Job}
-use Rattle.state.specs.declared.Held.{Held}
-use Rattle.state.specs.declared.Held.the-variants.{Nothing, In}
+use Rattle.state.specs.declared.Section.{Section}
+use Rattle.state.specs.declared.Stack.{Stack}
 use Rattle.state.specs.declared.Half.the-variants.{First, Second}
 use Rattle.state.specs.declared.Report.{Report}
 use Rattle.state.specs.declared.Report.the-variants.{CarryOn, Done, Take, Give}
@@ -24,12 +26,14 @@ use Rattle.state.specs.declared.Runner.the-variants as Runs
 use Rattle.state.specs.declared.State.{State}
 use Rattle.state.specs.State.{jobAt}
 use Rattle.state.specs.Answers.{bare}
-use Rattle.state.specs.Order.{holdsAny, heldResources}
+use Rattle.state.specs.Stack.{sectionAt}
+use Rattle.state.specs.Order.{holds, heldResources}
 use Rattle.choice.specs.Choice.{runner, turn}
 use Rattle.report.specs.Report as Report
-use Rattle.report.proofs.Laws.Answers.{idle-objects}
+use Rattle.report.proofs.Laws.Answers.{idle-objects, can-take}
+use Rattle.consistency.proofs.Laws.Jobs.{StackFits}
 use Rattle.machine.proofs.Laws.Calls as Calls
-use Rattle.promise.specs.History.{written, Call, release, choose, report, answered, Line, isReport, isChoice, wait, standing, objection, ofReport, numberBy}
+use Rattle.promise.specs.History.{written, Call, release, choose, report, answered, Line, isReport, isChoice, wait, standing, isHeld, objection, ofReport, numberBy}
 use Rattle.promise.specs.Promise.{Passed}
 use Rattle.promise.proofs.Edge.Invariant.{Good}
 use Rattle.promise.proofs.Keep.Made.{Made, refused, takes-on, chooses, idles, runs, steady, middle}
@@ -39,7 +43,9 @@ use Rattle.promise.proofs.Keep.Each.{keep}
 use Rattle.promise.proofs.Keep.Run.{none-holds, run-number}
 use Rattle.promise.proofs.Keep.Run as Run
 use Rattle.promise.proofs.History.Listed.{there, Stage, between, midway, Listed}
-use Rattle.promise.proofs.History.Holds.{tells}
+use Rattle.promise.proofs.History.Opened.{down, opened}
+use Rattle.promise.proofs.History.Places.{opened-length, held-is}
+use Rattle.promise.proofs.History.Holds.{tells, stack-fits}
 
 abbrev carries : Report → Bool
 carries CarryOn = true
@@ -73,31 +79,45 @@ module _ {t : Table} {passed : Passed written t} {s : State} (good : Good passed
       abbrev held : ℕ
       held = heldResources s
 
-      same-objection : (x : Held) → jobAt s p .held ≡ x → (said : Report) → Report.objection (taskAt t p) (jobAt s p) held said ≡ objection (taskAt t p) x said
-      same-objection x e CarryOn = refl
-      same-objection x e Done = refl
-      same-objection Nothing e Give = ap (λ (y : Held). cond (holdsAny y) 0 14) e
-      same-objection (In x) e Give = ap (λ (y : Held). cond (holdsAny y) 0 14) e
-      same-objection (In x) e (Take q) = ap (λ (y : Held). cond (holdsAny y) 14 (cond (eqb (limit (taskAt t p) q) 0) 13 (cond (has held q) 15 0))) e
-      same-objection Nothing e (Take q) =
-          ap (λ (y : Held). cond (holdsAny y) 14 (cond (eqb (limit (taskAt t p) q) 0) 13 (cond (has held q) 15 0))) e
-          ∙ go (eqb (limit (taskAt t p) q) 0) refl (has held q) refl
+      abbrev own : Stack
+      own = jobAt s p .held
+
+      fits : StackFits own
+      fits = stack-fits good listed p
+
+      -- a take: one that is held already, or a fifth; else by its limit, and nobody else holds it
+      take-objection : (q : ℕ) → Report.objection (taskAt t p) (jobAt s p) held (Take q) ≡ objection (taskAt t p) (opened own) (Take q)
+      take-objection q = ap (λ (b : Bool). cond b 14 (cond (eqb (limit (taskAt t p) q) 0) 13 (cond (has held q) 15 0))) same ∙ go _ (sym same) _ refl _ refl
         where
+          same : (holds q own || leb 4 (own .depth)) ≡ (isHeld q (opened own) || leb 4 (length (opened own)))
+          same = ap₂ (λ (b : Bool) (n : ℕ). b || leb 4 n) (held-is own fits q) (sym (opened-length own))
+
           some-limit : (n : ℕ) → (n ≡ 0 → ⊥) → 0 < n
           some-limit n f = omega (arith, f)
 
-          of : Bool → ℕ → ℕ
-          of b n = cond b 13 n
+          of : Bool → Bool → ℕ → ℕ
+          of b c n = cond b 14 (cond c 13 n)
 
-          go : (b : Bool) → eqb (limit (taskAt t p) q) 0 ≡ b → (c : Bool) → has held q ≡ c → of b (cond c 15 0) ≡ of b 0
-          go true f c g = refl
-          go false f false g = refl
-          go false f true g = absurd (none-holds good m p r q e (some-limit (limit (taskAt t p) q) (eqb-false _ _ f)) g)
+          go : (b : Bool) → b ≡ (holds q own || leb 4 (own .depth)) → (c : Bool) → eqb (limit (taskAt t p) q) 0 ≡ c → (d : Bool) → has held q ≡ d → of b c (cond d 15 0) ≡ of b c 0
+          go true e c f d g = refl
+          go false e true f d g = refl
+          go false e false f false g = refl
+          go false e false f true g = absurd (none-holds good m p r q (can-take (jobAt s p) q (sym e)) (some-limit (limit (taskAt t p) q) (eqb-false _ _ f)) g)
+
+      give-objection : (n : ℕ) → cond (ltb 0 n) 0 14 ≡ objection (taskAt t p) (down (sectionAt own) n) Give
+      unfolding down
+      give-objection zero = refl
+      give-objection (suc n) = cond-yes _ _ (lt-ltb 0 (suc n) (omega arith))
+
+      same-objection : (said : Report) → Report.objection (taskAt t p) (jobAt s p) held said ≡ objection (taskAt t p) (opened own) said
+      same-objection CarryOn = refl
+      same-objection Done = refl
+      same-objection Give = give-objection (own .depth)
+      same-objection (Take q) = take-objection q
 
       job-number : (said : Report) → reply (report said) .number ≡ ofReport t h (Runs.Job p) said
       job-number said =
-          run-number good m p r said ∙ same-objection (jobAt s p .held) refl said
-          ∙ ap (λ (y : Held). objection (taskAt t p) y said) (tells good listed p (Run.there good m p r) .held)
+          run-number good m p r said ∙ same-objection said ∙ ap (λ (l : List Section). objection (taskAt t p) l said) (tells good listed p (Run.there good m p r) .held)
 
     report-number : (said : Report) → reply (report said) .number ≡ ofReport t h (turn t s .runner) said
     report-number said = go (turn t s .runner) refl
@@ -154,7 +174,7 @@ module _ {t : Table} {passed : Passed written t} {s : State} (good : Good passed
       go (takes-on p c l f e) = taken e refl
       go (chooses c e) = taken e refl
       go (idles c m r f e) = taken e refl
-      go (runs p q c m r l f e) = taken e refl
+      go (runs p q c m r l f g e) = taken e refl
 
   pub released-bare : (k : ℕ) → reply (release k) ≡ bare (reply (release k) .number) (reply (release k) .state)
   released-bare k = go (keep good (release k) .made)
@@ -167,4 +187,4 @@ module _ {t : Table} {passed : Passed written t} {s : State} (good : Good passed
       go (takes-on p c l f e) = is-bare e
       go (chooses c e) = absurd (false≢true (ap isChoice c))
       go (idles c m r f e) = absurd (false≢true (ap isReport c))
-      go (runs p q c m r l f e) = absurd (false≢true (ap isReport c))
+      go (runs p q c m r l f g e) = absurd (false≢true (ap isReport c))

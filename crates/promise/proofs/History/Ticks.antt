@@ -7,14 +7,13 @@ use mathlib.Core.Logic.{_⊎_, inl, inr}
 use mathlib.Core.Option.{some}
 use native.Mathlib.Omega.{arith}
 use lib.ListN.{set}
-use borrow.Author.Tests.{eqb-true}
+use borrow.Author.Tests.{lt-ltb, eqb-true}
 use Rattle.units.proofs.Laws.Folds.{both}
 use Rattle.table.specs.declared.Table.{Table}
 use Rattle.table.specs.Table.{taskAt, I}
 use Rattle.state.specs.declared.Answer.{Answer}
 use Rattle.state.specs.declared.Job.{Job}
 use Rattle.state.specs.declared.Section.{Section}
-use Rattle.state.specs.declared.Held.the-variants.{In}
 use Rattle.state.specs.declared.Half.the-variants.{Second}
 use Rattle.state.specs.declared.Mode.{Mode}
 use Rattle.state.specs.declared.Mode.the-variants.{Synchronization}
@@ -24,17 +23,17 @@ use Rattle.state.specs.declared.Runner.{Runner}
 use Rattle.state.specs.declared.Runner.the-variants as Runs
 use Rattle.state.specs.declared.State.{State}
 use Rattle.state.specs.State.{jobAt}
-use Rattle.state.specs.Order.{noPlace, holdsAny}
+use Rattle.state.specs.Order.{noPlace, holdsAny, heldResources}
 use Rattle.choice.specs.declared.Turn.{Turn}
 use Rattle.choice.specs.Choice.{top, runner, alone, turn, choice}
 use Rattle.choice.proofs.Laws.Choice as Law
 use Rattle.report.specs.declared.Outcome.{Outcome}
 use Rattle.report.specs.Report as Report
 use Rattle.report.proofs.Laws.Jobs.{Fate, done, spent, stopped, goes, settled-is, closed-set-same}
-use Rattle.report.proofs.Laws.Answers.{outcome, taken-answer}
+use Rattle.report.proofs.Laws.Answers.{Fair, outcome, taken-answer}
 use Rattle.machine.specs.Machine.{chosen}
 use Rattle.machine.proofs.Laws.Calls as Calls
-use Rattle.promise.specs.History.{written, Call, choose, report, answered, Line, isReport, isTick, isAt, isOwn, section, endsAt, latest, isThere, standing, howEnded, endingBy}
+use Rattle.promise.specs.History.{written, Call, choose, report, answered, Line, isReport, isTick, isAt, isOwn, sections, IsOpen, endsAt, latest, isThere, standing, howEnded, endingBy}
 use Rattle.promise.specs.Promise.{Passed, InMode}
 use Rattle.promise.proofs.Edge.Choice as Chosen
 use Rattle.promise.proofs.Edge.Invariant.{some-top, passes, Good, is-ready}
@@ -47,7 +46,7 @@ use Rattle.promise.proofs.History.Tells.{line, Onward}
 use Rattle.promise.proofs.History.Onward.{onward}
 use Rattle.promise.proofs.History.List.{ends-here, ends-own}
 use Rattle.promise.proofs.History.Listed.{Stage, between, midway, Listed}
-use Rattle.promise.proofs.History.Holds.{tells, pending-is}
+use Rattle.promise.proofs.History.Holds.{tells, on-stack}
 
 module _ {t : Table} {passed : Passed written t} {s : State} (good : Good passed s) {h : List Line} (listed : Listed t s h) where
   abbrev reply : Call → Answer
@@ -68,7 +67,7 @@ module _ {t : Table} {passed : Passed written t} {s : State} (good : Good passed
         go (takes-on p c l f e) = absurd (false≢true (sym (ap isReport c)))
         go (chooses c e) = absurd (false≢true (sym (ap isReport c)))
         go (idles c m r f e) = ap of e ∙ same (s .jobs) 0
-        go (runs p q c m r l f e) = ap of e ∙ same (set (s .jobs) p (outcome t s (turn t s) p q .job)) (outcome t s (turn t s) p q .ending)
+        go (runs p q c m r l f g e) = ap of e ∙ same (set (s .jobs) p (outcome t s (turn t s) p q .job)) (outcome t s (turn t s) p q .ending)
 
     pub chosen-is : (c : Answer) × (standing h ≡ some c) × (a .runner ≡ c .runner) × (a .mode ≡ c .mode) × (a .speed ≡ c .speed)
     chosen-is = go (listed .stage)
@@ -113,8 +112,8 @@ module _ {t : Table} {passed : Passed written t} {s : State} (good : Good passed
         go (inl w) = subst (λ (o : Mode). InMode t at o (turn t s .speed)) (sym (w .mode)) (w .speed)
         go (inr e) = subst (λ (u : Turn). InMode t at (u .mode) (u .speed)) (sym e) refl
 
-    over-a-holder : (j : ℕ) (x : Section) → (j ≡ p → ⊥) → jobAt s j .held ≡ In x → turn t s .mode ≡ Synchronization
-    over-a-holder j x n e = Chosen.over-holder good some-job j (ap holdsAny e) (λ z. n (z ∙ at-p))
+    over-a-holder : (j : ℕ) → (j ≡ p → ⊥) → holdsAny (jobAt s j .held) ≡ true → turn t s .mode ≡ Synchronization
+    over-a-holder j n e = Chosen.over-holder good some-job j e (λ z. n (z ∙ at-p))
 
     -- its ending: it ends at this line if the job is pending no more
     abbrev here : Line
@@ -143,14 +142,14 @@ module _ {t : Table} {passed : Passed written t} {s : State} (good : Good passed
     by-fate (inl x) (goes y n k g) = ap (λ (o : Outcome). o .ending) g ∙ sym (ends false (x .going))
     by-fate (inl x) (done e g) = absurd (false≢true (sym (pending-after ∙ ap (λ (o : Outcome). o .job .pending) g) ∙ x .pending))
     by-fate (inl x) (spent e g) = absurd (false≢true (sym (pending-after ∙ ap (λ (o : Outcome). o .job .pending) g) ∙ x .pending))
-    by-fate (inl x) (stopped e b g) = absurd (false≢true (sym (pending-after ∙ ap (λ (o : Outcome). o .job .pending) g) ∙ x .pending))
+    by-fate (inl x) (stopped b g) = absurd (false≢true (sym (pending-after ∙ ap (λ (o : Outcome). o .job .pending) g) ∙ x .pending))
     by-fate (inr x) (goes y n k g) = absurd (false≢true (sym (x .1) ∙ pending-after ∙ ap (λ (o : Outcome). o .job .pending) g ∙ f))
     by-fate (inr x) (done e g) = ap (λ (o : Outcome). o .ending) g ∙ sym (ends true (x .0) ∙ ap (λ (q : Report). howEnded (report q)) e)
     by-fate (inr x) (spent e g) = let two = ap (λ (o : Outcome). o .ending) g in two ∙ sym (ends true (x .0) ∙ cut said two)
-    by-fate (inr x) (stopped e b g) = let two = ap (λ (o : Outcome). o .ending) g in two ∙ sym (ends true (x .0) ∙ cut said two)
+    by-fate (inr x) (stopped b g) = let two = ap (λ (o : Outcome). o .ending) g in two ∙ sym (ends true (x .0) ∙ cut said two)
 
-    ending-ran : p < t .count → s .half ≡ Second → o .ending ≡ ended-as
-    ending-ran l m = by-fate (onward good p (latest p h) (tells good listed p f) (report said) ran (runs p said refl m r l f refl)) (settled-is (taskAt t p) said job)
+    ending-ran : p < t .count → s .half ≡ Second → Fair (taskAt t p) (jobAt s p) (heldResources s) said → o .ending ≡ ended-as
+    ending-ran l m g = by-fate (onward good p (latest p h) (tells good listed p f) (report said) ran (runs p said refl m r l f g refl)) (settled-is (taskAt t p) said job)
 
   -- ---- the endings
 
@@ -173,7 +172,7 @@ module _ {t : Table} {passed : Passed written t} {s : State} (good : Good passed
       go (takes-on p c l f e) = ends-as c e refl
       go (chooses c e) = ends-as c e (none-ends (chosen (choice t s)) (choice t s .turn .runner))
       go (idles c m r f e) = ends-as c e (sym (ap (endingBy t h (line (report CarryOn) (taken-answer s (s .jobs) (turn t s) 0))) r))
-      go (runs p said c m r l f e) = ends-as c e (ending-ran p said r f l m ∙ sym (ap (endingBy t h (line (report said) (ran p said r f))) r))
+      go (runs p said c m r l f g e) = ends-as c e (ending-ran p said r f l m g ∙ sym (ap (endingBy t h (line (report said) (ran p said r f))) r))
 
   -- ---- the speeds
 
@@ -193,7 +192,7 @@ module _ {t : Table} {passed : Passed written t} {s : State} (good : Good passed
       go (takes-on p c l f e) = absurd (false≢true (sym (ap isReport c)))
       go (chooses c e) = absurd (false≢true (sym (ap isReport c)))
       go (idles c m r f e) = absurd (false≢true (mine (ap (λ (b : Answer). b .runner) e ∙ r)))
-      go (runs p q c m r l f e) =
+      go (runs p q c m r l f g e) =
           let same : p ≡ k = eqb-true p k (mine (ap (λ (b : Answer). b .runner) e ∙ r)) in
           subst (λ (b : Answer). P (b .mode) (b .speed)) (sym e)
           (of-turn q (r ∙ ap Runs.Job same) (ap (λ (i : ℕ). jobAt s i .pending) (sym same) ∙ f) (omega (arith, l)))
@@ -202,7 +201,8 @@ module _ {t : Table} {passed : Passed written t} {s : State} (good : Good passed
       → (1 ≤ reply (report said) .speed) × (reply (report said) .speed ≤ t .full) × InMode t k (reply (report said) .mode) (reply (report said) .speed)
   speed-is said k own = own-turn said k own (λ o v. (1 ≤ v) × (v ≤ t .full) × InMode t k o v) (λ q r f l. speed-fits k q r f l)
 
-  pub over-holder : (said : Report) (k j : ℕ) (x : Section) → isOwn k (line (report said) (reply (report said))) ≡ true → (j ≡ k → ⊥)
-      → isThere t j h ≡ true → section j (latest j h) ≡ In x → reply (report said) .mode ≡ Synchronization
-  over-holder said k j x own n e held =
-      own-turn said k own (λ o v. o ≡ Synchronization) (λ q r f l. over-a-holder k q r f j x n (tells good listed j (pending-is good listed j ∙ e) .held ∙ held))
+  pub over-holder : (said : Report) (k j p : ℕ) (x : Section) → isOwn k (line (report said) (reply (report said))) ≡ true → (j ≡ k → ⊥)
+      → isThere t j h ≡ true → IsOpen (sections j (latest j h)) p x → reply (report said) .mode ≡ Synchronization
+  over-holder said k j p x own n e at =
+      let w = on-stack good listed j p x e at in
+      own-turn said k own (λ o v. o ≡ Synchronization) (λ q r f l. over-a-holder k q r f j n (lt-ltb 0 (jobAt s j .held .depth) (omega (arith, w .2))))
