@@ -1,15 +1,16 @@
 -- Each state of a listing is a place of a history, and its lines show few numbers. Assumes nothing.
 use Prim.Native.Nat.{ℕ, zero, suc, _+_, _^_, _<_}
 use mathlib.Core.Path.{_≡_, refl, sym, ap, _∙_, subst}
-use mathlib.Core.Bool.{Bool, true, false, cond, false≢true}
+use mathlib.Core.Bool.{Bool, true, false, cond, _||_, false≢true}
 use mathlib.Core.List.{List, [], _∷_}
 use mathlib.Core.Logic.{_⊎_, inl, inr}
 use mathlib.Core.Option.{Option, none}
+use lib.ListN.{length}
 use lib.Dec.{eqb, leb}
 use borrow.Author.Tests.{eq-eqb}
 use Rattle.units.specs.Folds.{over}
 use Rattle.table.specs.{declared.Task.Task, declared.Table.Table, Table.taskAt, Table.limit}
-use Rattle.state.specs.{declared.State.State, declared.Answer.Answer, declared.Held.Held, declared.Held.the-variants.Nothing, declared.Held.the-variants.In, declared.Runner.Runner, declared.Report.Report, declared.Report.the-variants.CarryOn, declared.Report.the-variants.Done, declared.Report.the-variants.Take, declared.Report.the-variants.Give}
+use Rattle.state.specs.{declared.State.State, declared.Answer.Answer, declared.Section.Section, declared.Runner.Runner, declared.Report.Report, declared.Report.the-variants.CarryOn, declared.Report.the-variants.Done, declared.Report.the-variants.Take, declared.Report.the-variants.Give}
 use Rattle.state.specs.declared.Runner.the-variants.{Nobody, Job}
 use Rattle.records.specs.declared.Event.{Event}
 use Rattle.records.specs.declared.Event.the-variants as Event
@@ -17,7 +18,7 @@ use Rattle.records.specs.{Records.firstEvent, Contents.event}
 use Rattle.lines.specs.declared.Line.the-variants as Line
 use Rattle.listing.specs.declared.Step.{Step}
 use Rattle.listing.specs.Listing.{step, ticked, more, page}
-use Rattle.promise.specs.History.{written, Line as Told, lineOf, lines, Call, release, choose, report, answered, start, stateAfter, section, latest, wait, standing, objection, ofReport, numberBy}
+use Rattle.promise.specs.History.{written, Line as Told, lineOf, lines, Call, release, choose, report, answered, start, stateAfter, sections, isHeld, latest, wait, standing, objection, ofReport, numberBy}
 use Rattle.promise.specs.Promise.{Passed}
 use Rattle.promise.proofs.Promise.{promise}
 use Rattle.promise.proofs.History.List.{standing-new}
@@ -80,20 +81,23 @@ module _ (t : Table) (passed : Passed written t) (now : ℕ) (small : now < 2 ^ 
   few-take true = inr (inl refl)
   few-take false = inl refl
 
-  few-of : (task : Task) (x : Held) (said : Report) → Few (objection task x said)
-  few-of task x CarryOn = inl refl
-  few-of task x Done = inl refl
-  few-of task Nothing (Take r) = few-take (eqb (limit task r) 0)
-  few-of task (In x) (Take r) = inr (inr refl)
-  few-of task Nothing Give = inr (inr refl)
-  few-of task (In x) Give = inl refl
+  few-held : (a b : Bool) → Few (cond a 14 (cond b 13 0))
+  few-held true b = inr (inr refl)
+  few-held false b = few-take b
+
+  few-of : (task : Task) (l : List Section) (said : Report) → Few (objection task l said)
+  few-of task l CarryOn = inl refl
+  few-of task l Done = inl refl
+  few-of task l (Take r) = few-held (isHeld r l || leb 4 (length l)) (eqb (limit task r) 0)
+  few-of task [] Give = inr (inr refl)
+  few-of task (x ∷ l) Give = inl refl
 
   few-by : (h : List Told) (r : Runner) (said : Report) → Few (ofReport t h r said)
   few-by h Nobody CarryOn = inl refl
   few-by h Nobody Done = inr (inr refl)
   few-by h Nobody (Take r) = inr (inr refl)
   few-by h Nobody Give = inr (inr refl)
-  few-by h (Job k) said = few-of (taskAt t k) (section k (latest k h)) said
+  few-by h (Job k) said = few-of (taskAt t k) (sections k (latest k h)) said
 
   shows : (calls : List Call) → standing (told calls) ≡ none → (e : Event) → Shows (step t (at calls) e .line)
   unfolding step lines

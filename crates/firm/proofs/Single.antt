@@ -24,6 +24,7 @@ single = record {
   fresh = λ κs a r s v w p q. (p ∙ sym q, refl);
   bare = λ κs a r s v w p q. (p ∙ sym q, refl);
   any = λ κs a r s v w p q. (p ∙ sym q, refl);
+  holds = λ κs a r s v w p q. (p ∙ sym q, refl);
   join = λ κs a r s v w p q. (p ∙ sym q, refl);
   turnOf = λ κs a r s v w p q. (p ∙ sym q, refl);
   firstHalf = λ κs a r s v w p q. (p ∙ sym q, refl);

@@ -4,7 +4,7 @@ use lib.ListN.{length}
 use Rattle.promise.specs.History.{Machine, written}
 use Rattle.promise.specs.Promise.{Promise}
 use Rattle.ponds.specs.Ponds.{ponds, Worked}
-use Rattle.ponds.specs.Histories.{P5, RollOver}
+use Rattle.ponds.specs.Histories.{P5, RollOver, Pump}
 use Rattle.ponds.specs.Document003.{Misses}
 use Rattle.ponds.specs.FirstTick.{FirstTick}
 use Rattle.ponds.specs.Broken.{Broken}
@@ -42,11 +42,11 @@ pub record Claims : Type 0 where
   pub listed : Listed
   -- the ponds that were worked by hand come out as the paper says, and so many there are
   pub worked : Worked ponds
-  pub howManyPonds : length ponds ≡ 39
+  pub howManyPonds : length ponds ≡ 57
   -- what the calls do in a first tick on the table of the paper's listing
   pub firstTick : FirstTick
   -- what the promise speaks of does happen, and document 003's rule does not keep it
-  pub shown : P5 × RollOver × Misses
+  pub shown : P5 × RollOver × Pump × Misses
   -- wrong rules break it, and are told by the ponds
   pub broken : Broken
   pub ruledOut : RuledOut

@@ -10,7 +10,7 @@ use Rattle.admission.proofs as Admission
 use Rattle.state.proofs as State
 use Rattle.chooser.proofs as Chooser
 use Rattle.reporter.proofs as Reporter
-use Rattle.consistency.proofs as Consistency
+use Rattle.checker.proofs as Checker
 use Rattle.machine.proofs as Machine
 use Rattle.records.proofs as Records
 use Rattle.lines.proofs as Lines
@@ -45,12 +45,13 @@ pub record Singleness : Type 0 where
   pub position : Single Verdict.Verdict.position.ended Verdict.Verdict.position.Reads.Learnt
   pub fresh : Single State.State.fresh.ended State.State.fresh.Reads.Learnt
   pub bare : Single State.Answer.bare.ended State.Answer.bare.Reads.Learnt
-  pub any : Single State.Held.any.ended State.Held.any.Reads.Learnt
-  pub join : Single State.Held.join.ended State.Held.join.Reads.Learnt
+  pub any : Single State.Stack.any.ended State.Stack.any.Reads.Learnt
+  pub holds : Single State.Stack.holds.ended State.Stack.holds.Reads.Learnt
+  pub join : Single State.Stack.join.ended State.Stack.join.Reads.Learnt
   pub turnOf : Single Chooser.turn_of.ended Chooser.turn_of.Reads.Learnt
   pub firstHalf : Single Chooser.choose.ended Chooser.choose.Reads.Learnt
   pub secondHalf : Single Reporter.report.ended Reporter.report.Reads.Learnt
-  pub consistent : Single Consistency.consistent.ended Consistency.consistent.Reads.Learnt
+  pub consistent : Single Checker.consistent.ended Checker.consistent.Reads.Learnt
   pub release : Single Machine.release.ended Machine.release.Reads.Learnt
   pub choose : Single Machine.choose.ended Machine.choose.Reads.Learnt
   pub report : Single Machine.report.ended Machine.report.Reads.Learnt

@@ -1,4 +1,4 @@
--- "Ponds we have worked by hand": for each what the rules give, and beside it what document 01 says. Behind them stand our own.
+-- "Ponds we have worked by hand": for each what the rules give, and beside it what document 01, or Ask 1 of document 02, says. Behind them stand our own.
 use Prim.Native.Nat.{_*_}
 use mathlib.Core.Path.{_≡_}
 use mathlib.Core.List.{List, [], _∷_, _++_}
@@ -14,7 +14,7 @@ use Rattle.state.specs.declared.Mode.the-variants.{Independent, Synchronization
 use Rattle.lines.specs.declared.Line.the-variants.{Release, Run, Refused}
 use Rattle.lines.specs.Lines.{ascii}
 use Rattle.listing.specs.Listing.{listing}
-use Rattle.ponds.specs.Tables.{table, p1, p3, p5, two, p6, p7, p8, p5Before, p5Later, markLeft}
+use Rattle.ponds.specs.Tables.{table, p1, p3, p5, two, p6, p7, p8, pump, eight, p5Before, p5Later, markLeft}
 use Rattle.ponds.specs.Runs.{release, tick, carry, line, jobAfter}
 use Rattle.ponds.specs.Files.{whole}
 use Rattle.ponds.specs.Histories.{ticked, later2}
@@ -72,6 +72,30 @@ ponds =
     ∷ pond (line two 0 [] (tick Give)) (Refused (Clock.tick 0) 14)
     -- P10: "A table of no tasks: 2."
     ∷ pond (answer (verdict (table 5 240 0 []))) (2, 0)
+    -- Ask 1: "The brine pump takes the meter, then the valve inside it, and must hold both.", tick by tick
+    ∷ pond (answer (verdict pump)) (0, 0)
+    ∷ pond (line pump 0 (release 1 ∷ []) (tick (Take 0))) (Run (Clock.tick 0) (Job 1) Independent 1 0)
+    ∷ pond (line pump 0 (release 1 ∷ tick (Take 0) ∷ []) (tick (Take 1))) (Run (Clock.tick 1) (Job 1) Independent 1 0)
+    -- both are held: position 0, which may take the valve, is blocked by it; when it is given back, not by the meter
+    ∷ pond (line pump 0 (release 1 ∷ tick (Take 0) ∷ tick (Take 1) ∷ release 0 ∷ []) (tick Give)) (Run (Clock.tick 2) (Job 1) Synchronization 2 0)
+    ∷ pond (line pump 0 (release 1 ∷ tick (Take 0) ∷ tick (Take 1) ∷ release 0 ∷ tick Give ∷ []) (tick (Take 1))) (Run (Clock.tick 3) (Job 0) Synchronization 2 2)
+    ∷ pond (line pump 0 (release 1 ∷ tick (Take 0) ∷ tick (Take 1) ∷ release 0 ∷ tick Give ∷ tick Done ∷ []) (tick Give)) (Run (Clock.tick 4) (Job 1) Independent 1 0)
+    ∷ pond (line pump 0 (release 1 ∷ tick (Take 0) ∷ tick (Take 1) ∷ release 0 ∷ tick Give ∷ tick Done ∷ tick Give ∷ []) (tick Done)) (Run (Clock.tick 5) (Job 1) Independent 1 1)
+    -- the other way round it is blocked by the outer one alone
+    ∷ pond (line pump 0 (release 1 ∷ tick (Take 1) ∷ tick (Take 0) ∷ release 0 ∷ []) (tick Done)) (Run (Clock.tick 2) (Job 1) Synchronization 2 1)
+    -- "A job that still holds a section at its limit after a take or a give is ended as cut.": the meter's 6 steps, in the tick in which the valve is given back; and taken
+    ∷ pond (line pump 0 ((release 1 ∷ tick (Take 0) ∷ carry 2) ++ (tick (Take 1) ∷ carry 2)) (tick Give)) (Run (Clock.tick 6) (Job 1) Independent 1 2)
+    ∷ pond (line pump 0 (release 1 ∷ tick (Take 0) ∷ carry 5) (tick (Take 1))) (Run (Clock.tick 6) (Job 1) Independent 1 2)
+    -- "still": one that is given back in the tick in which it reaches its limit cuts nobody, and the next tick is the job's too; carried on with, it cuts
+    ∷ pond (line pump 0 (release 1 ∷ tick (Take 0) ∷ tick (Take 1) ∷ carry 2) (tick Give)) (Run (Clock.tick 4) (Job 1) Independent 1 0)
+    ∷ pond (line pump 0 (release 1 ∷ tick (Take 0) ∷ tick (Take 1) ∷ carry 2) (tick CarryOn)) (Run (Clock.tick 4) (Job 1) Independent 1 2)
+    -- 14: "taking one already held, taking a fifth, giving when none is held"; "its place stays", before 13, so that a fifth take of resource 200 is 14
+    ∷ pond (line pump 0 (release 1 ∷ tick (Take 0) ∷ tick (Take 1) ∷ []) (tick (Take 0))) (Refused (Clock.tick 2) 14)
+    ∷ pond (line eight 0 (release 0 ∷ tick (Take 7) ∷ tick (Take 6) ∷ tick (Take 5) ∷ []) (tick (Take 4))) (Run (Clock.tick 3) (Job 0) Independent 1 0)
+    ∷ pond (line eight 0 (release 0 ∷ tick (Take 7) ∷ tick (Take 6) ∷ tick (Take 5) ∷ tick (Take 4) ∷ []) (tick (Take 3))) (Refused (Clock.tick 4) 14)
+    ∷ pond (line eight 0 (release 0 ∷ tick (Take 7) ∷ tick (Take 6) ∷ tick (Take 5) ∷ tick (Take 4) ∷ []) (tick (Take 200))) (Refused (Clock.tick 4) 14)
+    ∷ pond (line eight 0 (release 0 ∷ tick (Take 7) ∷ []) (tick (Take 200))) (Refused (Clock.tick 1) 13)
+    ∷ pond (line eight 0 (release 0 ∷ tick (Take 7) ∷ tick Give ∷ []) (tick Give)) (Refused (Clock.tick 2) 14)
     -- "Whole listing for F 2, G 20", from the bytes of its record file to those of the listing
     ∷ pond (listing whole) (ascii "table 0\n0 release 1 0\n0 run 1 i 1 0\n1 release 0 0\n1 run 1 s 2 0\n2 run 0 s 2 1\n3 run 1 i 1 1\n")
     -- ---- our own, under the sentences that they work out: of each a wrong version is ruled out, and what that gives is in specs/RuledOut
@@ -83,9 +107,9 @@ ponds =
     ∷ pond (jobAfter p8 100 (release 0 ∷ []) 0 .wait .0) 7
     -- "else take or give is done; else a holder at its limit is ended as cut": P9 with a give in the tick that reaches the limit, which goes on
     ∷ pond (line two 0 (release 1 ∷ tick (Take 0) ∷ carry 3) (tick Give)) (Run (Clock.tick 4) (Job 1) Independent 1 0)
-    -- "Report: 9, 11, 14, 13, 15, 16.": a take of resource 8, and of resource 1 with limit 0, is 14 while holding, and 13 while holding nothing
-    ∷ pond (line two 0 (release 1 ∷ tick (Take 0) ∷ []) (tick (Take 8))) (Refused (Clock.tick 1) 14)
-    ∷ pond (line two 0 (release 1 ∷ tick (Take 0) ∷ []) (tick (Take 1))) (Refused (Clock.tick 1) 14)
+    -- 13, "take of a resource above 7 or with limit 0": of resource 8, and of resource 1 with limit 0, inside another section and outside of any
+    ∷ pond (line two 0 (release 1 ∷ tick (Take 0) ∷ []) (tick (Take 8))) (Refused (Clock.tick 1) 13)
+    ∷ pond (line two 0 (release 1 ∷ tick (Take 0) ∷ []) (tick (Take 1))) (Refused (Clock.tick 1) 13)
     ∷ pond (line two 0 (release 1 ∷ []) (tick (Take 8))) (Refused (Clock.tick 0) 13)
     ∷ pond (line two 0 (release 1 ∷ []) (tick (Take 1))) (Refused (Clock.tick 0) 13)
     -- "The runner's steps used rise by the speed, up to C.", and not "trimming a job's steps used by its section limit": 4 ticks of 4 steps, of which the section has 10

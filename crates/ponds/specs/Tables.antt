@@ -52,6 +52,14 @@ p7 = table 4 90 4 (task 9 1 1 4 0 0 ∷ task 10 1 1 4 0 0 ∷ task 10 1 1 4 1 0 
 abbrev pub p8 : Table
 p8 = table 1 5 1 (record { period = ticks 7; deadline = ticks 5; budget = steps 1; independent = 1; synchronization = 1; limits = listed (λ r. steps 0) 8 } ∷ [])
 
+-- Ask 1's pump, position 1: resource 0 is its meter, of 6 steps, and resource 1 its valve, of 3, which position 0 takes too
+abbrev pub pump : Table
+pump = table 2 20 2 (task 10 2 1 2 0 2 ∷ task 20 10 1 2 6 3 ∷ [])
+
+-- a task that may take each of the eight resources
+abbrev pub eight : Table
+eight = table 1 20 1 (record { period = ticks 20; deadline = ticks 20; budget = steps 10; independent = 1; synchronization = 1; limits = listed (λ r. steps 9) 8 } ∷ [])
+
 -- P5's events: "Position 3 released at 0 takes resource 0 at its first report; positions 0 and 1 released at 1 and 11, position 2 at 7; all use whole budgets.":
 -- up to tick 7, and from the release of position 2 on with n ticks after tick 10
 abbrev pub p5Before : List Event

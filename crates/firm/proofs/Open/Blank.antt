@@ -2,7 +2,7 @@
 use Prim.Native.Nat.{ℕ, _+_, _-_, min}
 use mathlib.Core.Path.{_≡_, refl, ap, _∙_}
 use mathlib.Core.Bool.{Bool, true, false, cond, _&&_, _||_, not}
-use mathlib.Core.List.{List, [], _∷_}
+use mathlib.Core.List.{List, [], _∷_, map}
 use mathlib.Core.Option.{Option, none, some}
 use lib.Dec.{eqb, leb}
 use Rattle.units.specs.Amounts.{given, ticks, steps}
@@ -10,14 +10,14 @@ use Rattle.units.specs.Clock.{tick, after}
 use Rattle.table.specs.declared.Table.{Table}
 use Rattle.table.specs.Table.{C, D, taskAt}
 use Rattle.state.specs.declared.Answer.{Answer}
-use Rattle.state.specs.declared.Held.{Held}
-use Rattle.state.specs.declared.Held.the-variants.{Nothing}
+use Rattle.state.specs.declared.Section.{Section}
+use Rattle.state.specs.Stack.{nothing}
 use Rattle.state.specs.declared.Report.{Report}
 use Rattle.state.specs.declared.Report.the-variants.{CarryOn, Done, Take, Give}
 use Rattle.state.specs.declared.Runner.{Runner}
 use Rattle.state.specs.declared.Runner.the-variants as Runs
 use Rattle.state.specs.State.{empty}
-use Rattle.promise.specs.History.{Line, Call, release, choose, report, isTick, isOwn, isStart, takesOn, opens, longer, afterCall, isLast, ticksClosed, stepsGiven, section, hasStarted, endsAt, latest, isThere, ticksLeft, wait, standing, ofReport, objection, numberBy, howEnded, endingBy, jobBy, halfBy, runnerBy}
+use Rattle.promise.specs.History.{Line, Call, release, choose, report, isTick, isOwn, isStart, takesOn, opens, longer, afterCall, isLast, ticksClosed, stepsGiven, sections, hasStarted, endsAt, latest, isThere, ticksLeft, wait, standing, ofReport, objection, numberBy, howEnded, endingBy, jobBy, stackOf, halfBy, runnerBy}
 
 abbrev pub blank : Answer → Answer
 blank a = record { number = a .number; state = empty (tick 0); runner = a .runner; mode = a .mode; speed = a .speed; ending = 0 }
@@ -39,10 +39,10 @@ unfolding stepsGiven blanks
 blank-steps t k [] = refl
 blank-steps t k (l ∷ h) = ap (λ (n : ℕ). cond (isOwn k l) (min (n + given (l .answer .speed)) (C t k)) n) (blank-steps t k h)
 
-pub blank-section : (k : ℕ) (h : List Line) → section k (blanks h) ≡ section k h
-unfolding section blanks
-blank-section k [] = refl
-blank-section k (l ∷ h) = ap (λ (x : Held). cond (isOwn k l) (afterCall (l .call) (longer (l .answer .speed) x)) x) (blank-section k h)
+pub blank-sections : (k : ℕ) (h : List Line) → sections k (blanks h) ≡ sections k h
+unfolding sections blanks
+blank-sections k [] = refl
+blank-sections k (l ∷ h) = ap (λ (x : List Section). cond (isOwn k l) (afterCall (l .call) (map (longer (l .answer .speed)) x)) x) (blank-sections k h)
 
 pub blank-started : (k : ℕ) (h : List Line) → hasStarted k (blanks h) ≡ hasStarted k h
 unfolding hasStarted blanks
@@ -52,8 +52,8 @@ blank-started k (l ∷ h) = ap (λ (b : Bool). isStart k l || b) (blank-started 
 pub blank-ends : (t : Table) (k : ℕ) (l : Line) (h : List Line) → endsAt t k (blankLine l) (blanks h) ≡ endsAt t k l h
 unfolding endsAt blanks
 blank-ends t k l h =
-    ap (λ (n : ℕ). isOwn k l && (eqb n (C t k) || isLast t k (l .call) (section k (blanks (l ∷ h))))) (blank-steps t k (l ∷ h))
-    ∙ ap (λ (x : Held). isOwn k l && (eqb (stepsGiven t k (l ∷ h)) (C t k) || isLast t k (l .call) x)) (blank-section k (l ∷ h))
+    ap (λ (n : ℕ). isOwn k l && (eqb n (C t k) || isLast t k (l .call) (sections k (blanks (l ∷ h))))) (blank-steps t k (l ∷ h))
+    ∙ ap (λ (x : List Section). isOwn k l && (eqb (stepsGiven t k (l ∷ h)) (C t k) || isLast t k (l .call) x)) (blank-sections k (l ∷ h))
 
 push : (b : Bool) (l : Line) (h : List Line) → cond b [] (blankLine l ∷ blanks h) ≡ blanks (cond b [] (l ∷ h))
 unfolding blanks
@@ -94,15 +94,15 @@ blank-standing (l ∷ h) =
     ap (λ (o : Option Answer). cond (eqb (l .answer .number) 0) (opens (l .call) (blank (l .answer)) o) o) (blank-standing h)
     ∙ blank-opens (eqb (l .answer .number) 0) (l .call) (l .answer) (standing h)
 
-pub blank-since : (k : ℕ) (h : List Line) → section k (latest k (blanks h)) ≡ section k (latest k h)
-blank-since k h = ap (section k) (blank-latest k h) ∙ blank-section k (latest k h)
+pub blank-since : (k : ℕ) (h : List Line) → sections k (latest k (blanks h)) ≡ sections k (latest k h)
+blank-since k h = ap (sections k) (blank-latest k h) ∙ blank-sections k (latest k h)
 
 of-report : (t : Table) (h : List Line) (r : Runner) (said : Report) → ofReport t (blanks h) r said ≡ ofReport t h r said
 of-report t h Runs.Nobody CarryOn = refl
 of-report t h Runs.Nobody Done = refl
 of-report t h Runs.Nobody (Take r) = refl
 of-report t h Runs.Nobody Give = refl
-of-report t h (Runs.Job k) said = ap (λ (x : Held). objection (taskAt t k) x said) (blank-since k h)
+of-report t h (Runs.Job k) said = ap (λ (x : List Section). objection (taskAt t k) x said) (blank-since k h)
 
 number-of : (t : Table) (h : List Line) (o : Option Answer) (call : Call) → numberBy t (blanks h) (blankChoice o) call ≡ numberBy t h o call
 number-of t h none (release k) = ap (λ (n : ℕ). cond (leb (t .count) k) 10 (cond (eqb n 0) 0 12)) (blank-wait t k h)
@@ -130,8 +130,8 @@ blank-used t k h = ap (stepsGiven t k) (blank-latest k h) ∙ blank-steps t k (l
 
 pub blank-job : (t : Table) (now k : ℕ) (h : List Line) → jobBy t now k (blanks h) ≡ jobBy t now k h
 blank-job t now k h = λ i. cond (blank-there t k h i)
-    (record { pending = true; started = (ap (hasStarted k) (blank-latest k h) ∙ blank-started k (latest k h)) i; deadline = tick (after now (D t k - blank-closed k h i)); used = steps (blank-used t k h i); held = blank-since k h i; wait = ticks (blank-wait t k h i) })
-    (record { pending = false; started = false; deadline = tick 0; used = steps 0; held = Nothing; wait = ticks (blank-wait t k h i) })
+    (record { pending = true; started = (ap (hasStarted k) (blank-latest k h) ∙ blank-started k (latest k h)) i; deadline = tick (after now (D t k - blank-closed k h i)); used = steps (blank-used t k h i); held = stackOf (blank-since k h i); wait = ticks (blank-wait t k h i) })
+    (record { pending = false; started = false; deadline = tick 0; used = steps 0; held = nothing; wait = ticks (blank-wait t k h i) })
 
 half-of : (o : Option Answer) → halfBy (blankChoice o) ≡ halfBy o
 half-of none = refl

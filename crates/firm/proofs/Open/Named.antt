@@ -11,9 +11,9 @@ use borrow.Author.Tests.{eq-eqb}
 use Rattle.units.proofs.Laws.Folds.{both}
 use Rattle.table.specs.declared.Table.{Table}
 use Rattle.table.specs.Table.{D, ceiling}
-use Rattle.state.specs.{declared.State.State, declared.Answer.Answer, declared.Section.Section, declared.Held.Held, declared.Held.the-variants.In, declared.Report.the-variants.CarryOn}
+use Rattle.state.specs.{declared.State.State, declared.Answer.Answer, declared.Section.Section, declared.Report.the-variants.CarryOn}
 use Rattle.state.specs.declared.Runner.the-variants.{Job}
-use Rattle.promise.specs.History.{Machine, choose, report, answered, Line, lineOf, section, hasStarted, endsAt, latest, isThere, ticksLeft, numberBy, runnerBy}
+use Rattle.promise.specs.History.{Machine, choose, report, answered, Line, lineOf, sections, IsOpen, hasStarted, endsAt, latest, isThere, ticksLeft, numberBy, runnerBy}
 use Rattle.promise.specs.Promise.{FirstBlocked, Kept}
 use Rattle.promise.proofs.History.List.{carries-on, there-on, standing-new}
 use Rattle.firm.proofs.Silly.First.{own-is}
@@ -24,11 +24,11 @@ use Rattle.firm.proofs.Open.Blank.{blanks}
 pub record View : Type 0 where
   pub there : ℕ → Bool
   pub started : ℕ → Bool
-  pub held : ℕ → Held
+  pub held : ℕ → List Section
   pub left : ℕ → ℕ
 
 abbrev pub viewOf : Table → List Line → View
-viewOf t h = record { there = λ j. isThere t j h; started = λ j. hasStarted j (latest j h); held = λ j. section j (latest j h); left = λ j. ticksLeft t j h }
+viewOf t h = record { there = λ j. isThere t j h; started = λ j. hasStarted j (latest j h); held = λ j. sections j (latest j h); left = λ j. ticksLeft t j h }
 
 blank-view : (t : Table) (h : List Line) → viewOf t (blanks h) ≡ viewOf t h
 blank-view t h = λ i. record {
@@ -51,16 +51,17 @@ module _ (t : Table) (v : View) where
     pub noneAhead : (q : ℕ) → v .there q ≡ true → First q first → ⊥
     pub holder : ℕ
     pub other : holder ≡ first → ⊥
-    pub held : Section
     pub holderThere : v .there holder ≡ true
-    pub holds : v .held holder ≡ In held
+    pub inside : ℕ
+    pub held : Section
+    pub holds : IsOpen (v .held holder) inside held
     pub bars : ceiling t (held .resource) ≤ D t first
 
   -- what holds of a job that is named
   pub record Named (k : ℕ) : Type 0 where
     pub there : v .there k ≡ true
     pub inOrder : (j : ℕ) → v .there j ≡ true → First j k → (v .started j ≡ false) × (v .started k ≡ true) × Blocked
-    pub startsFree : v .started k ≡ false → (j : ℕ) (x : Section) → (j ≡ k → ⊥) → v .there j ≡ true → v .held j ≡ In x → D t k < ceiling t (x .resource)
+    pub startsFree : v .started k ≡ false → (j p : ℕ) (x : Section) → (j ≡ k → ⊥) → v .there j ≡ true → IsOpen (v .held j) p x → D t k < ceiling t (x .resource)
 
   either : (j k : ℕ) → (j ≡ k) ⊎ (First j k ⊎ First k j)
   either j k = go (decLt (v .left j) (v .left k)) (decLt (v .left k) (v .left j)) (decLt j k) (decLt k j)
@@ -86,7 +87,7 @@ module _ (t : Table) (v : View) where
       f = b .first
 
       go : (f ≡ k) ⊎ (First f k ⊎ First k f) → ⊥
-      go (inl z) = omega (arith, nk .startsFree (w .0) (b .holder) (b .held) (λ y. b .other (y ∙ sym z)) (b .holderThere) (b .holds), b .bars, ap (D t) z)
+      go (inl z) = omega (arith, nk .startsFree (w .0) (b .holder) (b .inside) (b .held) (λ y. b .other (y ∙ sym z)) (b .holderThere) (b .holds), b .bars, ap (D t) z)
       go (inr (inl z)) = false≢true (sym (w .0) ∙ nk .inOrder f (b .there) z .1)
       go (inr (inr z)) = b .noneAhead k (nk .there) z
 
@@ -114,11 +115,11 @@ module _ (m : Machine) (t : Table) (now : ℕ) (s : State) (h : List Line) (kept
       both (isThere t k h) (not (endsAt t k c (latest k h))) (sym (there-on c h k t refl) ∙ next .withinLimits CarryOn k own .there) .0
 
   blocked-as : FirstBlocked t h → Blocked t (viewOf t h)
-  blocked-as b = record { first = b .first; there = b .there; noneAhead = b .noneAhead; holder = b .holder; other = b .other; held = b .held; holderThere = b .holderThere; holds = b .holds; bars = b .bars }
+  blocked-as b = record { first = b .first; there = b .there; noneAhead = b .noneAhead; holder = b .holder; other = b .other; holderThere = b .holderThere; inside = b .inside; held = b .held; holds = b .holds; bars = b .bars }
 
   pub is-named : Named t (viewOf t h) k
   is-named = record {
     there = is-there;
     inOrder = λ j there ahead. let w = kept .inOrder k j zero names there ahead in (w .0, w .1, blocked-as (w .3));
-    startsFree = λ fresh j x other there holds. kept .startsFree k j x zero names fresh other there holds;
+    startsFree = λ fresh j p x other there holds. kept .startsFree k j p x zero names fresh other there holds;
   }

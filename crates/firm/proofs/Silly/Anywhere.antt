@@ -6,25 +6,26 @@ use mathlib.Core.List.{List, _∷_}
 use native.Mathlib.Omega.{arith}
 use lib.Dec.{eqb}
 use Rattle.units.specs.Amounts.{given}
-use Rattle.units.proofs.Laws.Folds.{both}
+use Rattle.units.proofs.Laws.Folds.{both, listed-at}
 use Rattle.table.specs.declared.Table.{Table}
 use Rattle.table.specs.Table.{C}
-use Rattle.state.specs.{declared.State.State, declared.Answer.Answer, declared.Runner.Runner, declared.Report.Report, declared.Report.the-variants.CarryOn, declared.Report.the-variants.Done, declared.Report.the-variants.Take, declared.Report.the-variants.Give, declared.Held.Held, declared.Held.the-variants.Nothing, declared.Held.the-variants.In, State.jobAt}
+use Rattle.state.specs.{declared.Section.Section, declared.State.State, declared.Answer.Answer, declared.Runner.Runner, declared.Report.Report, declared.Report.the-variants.Done, Stack.noSection, State.jobAt}
 use Rattle.state.specs.declared.Runner.the-variants.{Nobody, Job}
 use Rattle.state.specs.declared.Job as Job
-use Rattle.promise.specs.History.{Machine, Call, release, choose, report, Line, lineOf, lines, stateAfter, start, isAt, isTick, isOwn, stepsGiven, longer, afterCall, section, isLast, endsAt, isRelease, latest, isThere, endingBy, pendingBy, absentBy, jobBy}
+use Rattle.promise.specs.History.{Machine, Call, release, choose, report, Line, lineOf, lines, stateAfter, start, isAt, isTick, isOwn, stepsGiven, sections, isLast, endsAt, isRelease, latest, isThere, endingBy, pendingBy, absentBy, jobBy}
 use Rattle.promise.specs.Promise.{Passed, Kept, Promise}
-use Rattle.promise.proofs.History.Counts.{not-worked, has-worked, same-section, next-section}
+use Rattle.promise.proofs.History.Counts.{not-worked, has-worked, same-sections, next-sections}
 use Rattle.promise.proofs.History.List.{is-pending, latest-on, there-on}
 use Rattle.firm.specs.Refuted.{allowed, inSection}
 use Rattle.firm.proofs.Silly.First.{own-is}
+use Rattle.firm.proofs.Silly.Sections.{stepsAt, on-stack, after-le}
 
 -- what is done has ended
 done-ends : (t : Table) (k : ℕ) (l : Line) (h : List Line) → l .call ≡ report Done → isOwn k l ≡ true → endsAt t k l h ≡ true
 unfolding endsAt
 done-ends t k l h c own =
-    ap (λ (b : Bool). b && (eqb (stepsGiven t k (l ∷ h)) (C t k) || isLast t k (l .call) (section k (l ∷ h)))) own
-    ∙ ap (λ (q : Call). eqb (stepsGiven t k (l ∷ h)) (C t k) || isLast t k q (section k (l ∷ h))) c
+    ap (λ (b : Bool). b && (eqb (stepsGiven t k (l ∷ h)) (C t k) || isLast t k (l .call) (sections k (l ∷ h)))) own
+    ∙ ap (λ (q : Call). eqb (stepsGiven t k (l ∷ h)) (C t k) || isLast t k q (sections k (l ∷ h))) c
     ∙ or-true (eqb (stepsGiven t k (l ∷ h)) (C t k))
 
 done-gone : (t : Table) (k : ℕ) (l : Line) (h : List Line) → l .call ≡ report Done → isOwn k l ≡ true → isThere t k h ≡ true → isThere t k (l ∷ h) ≡ false
@@ -53,34 +54,22 @@ given-le t k l h = go (isOwn k l) refl
     go true e = omega (arith, has-worked l h t k e, allowed-own k (l .answer .speed) (l .answer .runner) (both (isTick l) _ e .1))
     go false e = omega (arith, not-worked l h t k e)
 
--- the section likewise
-section-by : (t : Table) (now k : ℕ) (h : List Line) → inSection (jobBy t now k h .held) ≡ cond (isThere t k h) (inSection (section k (latest k h))) 0
-section-by t now k h = go (isThere t k h)
-  where
-    go : (b : Bool) → inSection (cond b (pendingBy t now k h) (absentBy t k h) .held) ≡ cond b (inSection (section k (latest k h))) 0
-    go true = refl
-    go false = refl
+-- each section likewise
+module _ (i : ℕ) (b : i < 4) where
+  section-by : (t : Table) (now k : ℕ) (h : List Line) → inSection (jobBy t now k h .held) i ≡ cond (isThere t k h) (stepsAt (sections k (latest k h)) i) 0
+  section-by t now k h = go (isThere t k h)
+    where
+      go : (b : Bool) → inSection (cond b (pendingBy t now k h) (absentBy t k h) .held) i ≡ cond b (stepsAt (sections k (latest k h)) i) 0
+      go true = on-stack (sections k (latest k h)) i b
+      go false = ap (λ (x : Section). x .steps .0) (listed-at noSection (λ (i : ℕ). noSection) 4 i b)
 
-longer-le : (v : ℕ) (x : Held) (call : Call) → inSection (afterCall call (longer v x)) ≤ inSection x + given v
-longer-le v Nothing (release k) = omega arith
-longer-le v (In x) (release k) = omega arith
-longer-le v Nothing choose = omega arith
-longer-le v (In x) choose = omega arith
-longer-le v Nothing (report CarryOn) = omega arith
-longer-le v (In x) (report CarryOn) = omega arith
-longer-le v Nothing (report Done) = omega arith
-longer-le v (In x) (report Done) = omega arith
-longer-le v Nothing (report (Take r)) = omega arith
-longer-le v (In x) (report (Take r)) = omega arith
-longer-le v Nothing (report Give) = omega arith
-longer-le v (In x) (report Give) = omega arith
-
-section-le : (t : Table) (k : ℕ) (l : Line) (h : List Line) → inSection (section k (l ∷ h)) ≤ inSection (section k h) + allowed k (l .answer .runner) (l .answer .speed)
-section-le t k l h = go (isOwn k l) refl
+section-le : (i : ℕ) (t : Table) (k : ℕ) (l : Line) (h : List Line) → stepsAt (sections k (l ∷ h)) i ≤ stepsAt (sections k h) i + allowed k (l .answer .runner) (l .answer .speed)
+section-le i t k l h = go (isOwn k l) refl
   where
-    go : (b : Bool) → isOwn k l ≡ b → inSection (section k (l ∷ h)) ≤ inSection (section k h) + allowed k (l .answer .runner) (l .answer .speed)
-    go true e = omega (arith, ap inSection (next-section l h t k e), longer-le (l .answer .speed) (section k h) (l .call), allowed-own k (l .answer .speed) (l .answer .runner) (both (isTick l) _ e .1))
-    go false e = omega (arith, ap inSection (same-section l h t k e))
+    go : (b : Bool) → isOwn k l ≡ b → stepsAt (sections k (l ∷ h)) i ≤ stepsAt (sections k h) i + allowed k (l .answer .runner) (l .answer .speed)
+    go true e =
+        omega (arith, ap (λ (x : List Section). stepsAt x i) (next-sections l h t k e), after-le (l .answer .speed) (l .call) (sections k h) i, allowed-own k (l .answer .speed) (l .answer .runner) (both (isTick l) _ e .1))
+    go false e = omega (arith, ap (λ (x : List Section). stepsAt x i) (same-sections l h t k e))
 
 module _ (m : Machine) where
   -- a job that is done
@@ -148,5 +137,5 @@ module _ (m : Machine) where
     pub none-added : let s = stateAfter m t (start m t now) calls in let a = m .report t s said in jobAt s k .used .0 + allowed k (a .runner) (a .speed) < jobAt (a .state) k .used .0 → ⊥
     none-added = none-more t passed now small calls said k keeps (λ j. j .used .0) (stepsGiven t k) (λ now h. used-by t now k h) (given-le t k)
 
-    pub none-longer : let s = stateAfter m t (start m t now) calls in let a = m .report t s said in inSection (jobAt s k .held) + allowed k (a .runner) (a .speed) < inSection (jobAt (a .state) k .held) → ⊥
-    none-longer = none-more t passed now small calls said k keeps (λ j. inSection (j .held)) (λ h. inSection (section k h)) (λ now h. section-by t now k h) (section-le t k)
+    pub none-longer : (i : ℕ) → i < 4 → let s = stateAfter m t (start m t now) calls in let a = m .report t s said in inSection (jobAt s k .held) i + allowed k (a .runner) (a .speed) < inSection (jobAt (a .state) k .held) i → ⊥
+    none-longer i b = none-more t passed now small calls said k keeps (λ j. inSection (j .held) i) (λ h. stepsAt (sections k h) i) (λ now h. section-by i b t now k h) (section-le i t k)

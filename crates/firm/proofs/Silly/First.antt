@@ -2,7 +2,7 @@
 use Prim.Native.Nat.{ℕ, zero, suc, _+_, _≤_, _<_, min}
 use mathlib.Core.Path.{_≡_, refl, sym, ap, _∙_}
 use mathlib.Core.Bool.{Bool, true, false, not, _&&_, _||_, false≢true}
-use mathlib.Core.List.{List, [], _∷_}
+use mathlib.Core.List.{List, [], _∷_, map}
 use mathlib.Core.Logic.{_⊎_, inl, inr}
 use mathlib.Core.Option.{Option, none, some}
 use native.Mathlib.Omega.{arith}
@@ -13,11 +13,11 @@ use Rattle.units.specs.Amounts.{given}
 use Rattle.units.specs.Clock.{tick, after}
 use Rattle.units.proofs.Laws.Folds.{both}
 use Rattle.table.specs.declared.Table.{Table}
-use Rattle.state.specs.{declared.State.State, declared.Answer.Answer, declared.Runner.Runner, declared.Report.Report, declared.Report.the-variants.CarryOn, declared.Held.the-variants.Nothing, State.jobAt}
+use Rattle.state.specs.{declared.State.State, declared.Answer.Answer, declared.Runner.Runner, declared.Report.Report, declared.Report.the-variants.CarryOn, declared.Section.Section, State.jobAt}
 use Rattle.state.specs.declared.Runner.the-variants.{Nobody, Job}
-use Rattle.promise.specs.History.{Machine, Call, release, choose, report, answered, Line, lineOf, lines, start, isReport, isAt, isOwn, stepsGiven, longer, afterCall, section, isLast, endsAt, ticksClosed, takesOn, latest, isThere, wait, standing, numberBy, runnerBy}
+use Rattle.promise.specs.History.{Machine, Call, release, choose, report, answered, Line, lineOf, lines, start, isReport, isAt, isOwn, stepsGiven, longer, afterCall, sections, isLast, endsAt, ticksClosed, takesOn, latest, isThere, wait, standing, numberBy, runnerBy}
 use Rattle.promise.specs.Promise.{Passed, Kept, Promise}
-use Rattle.promise.proofs.History.Counts.{one-tick, not-worked, same-section, has-worked, next-section}
+use Rattle.promise.proofs.History.Counts.{one-tick, not-worked, same-sections, has-worked, next-sections}
 use Rattle.promise.proofs.History.List.{is-pending, carries-on, taken-holds, latest-new, latest-on, there-new, there-on, ends-own, standing-new}
 use Rattle.ponds.specs.Tables.{two}
 
@@ -46,7 +46,7 @@ unfolding endsAt
 ends-tells t k l h e = both (isOwn k l) _ e .0
 
 eight : (l c : Line) → l .call ≡ report CarryOn → c .call ≡ choose → isOwn 1 l ≡ true → endsAt two 1 l (c ∷ []) ≡ true → 8 ≤ l .answer .speed
-unfolding endsAt stepsGiven section given
+unfolding endsAt stepsGiven sections given
 eight l c e f own ends = omega (arith, budget, steps, nothing-yet)
   where
     not-own : isOwn 1 c ≡ false
@@ -58,13 +58,13 @@ eight l c e f own ends = omega (arith, budget, steps, nothing-yet)
     steps : stepsGiven two 1 (l ∷ c ∷ []) ≡ min (stepsGiven two 1 (c ∷ []) + l .answer .speed) 8
     steps = has-worked l (c ∷ []) two 1 own
 
-    holds-none : section 1 (l ∷ c ∷ []) ≡ Nothing
+    holds-none : sections 1 (l ∷ c ∷ []) ≡ []
     holds-none =
-        next-section l (c ∷ []) two 1 own ∙ ap (λ (q : Call). afterCall q (longer (l .answer .speed) (section 1 (c ∷ [])))) e
-        ∙ ap (longer (l .answer .speed)) (same-section c [] two 1 not-own)
+        next-sections l (c ∷ []) two 1 own ∙ ap (λ (q : Call). afterCall q (map (longer (l .answer .speed)) (sections 1 (c ∷ [])))) e
+        ∙ ap (map (longer (l .answer .speed))) (same-sections c [] two 1 not-own)
 
-    not-last : isLast two 1 (l .call) (section 1 (l ∷ c ∷ [])) ≡ false
-    not-last = ap (λ (q : Call). isLast two 1 q (section 1 (l ∷ c ∷ []))) e ∙ ap (isLast two 1 (report CarryOn)) holds-none
+    not-last : isLast two 1 (l .call) (sections 1 (l ∷ c ∷ [])) ≡ false
+    not-last = ap (λ (q : Call). isLast two 1 q (sections 1 (l ∷ c ∷ []))) e ∙ ap (isLast two 1 (report CarryOn)) holds-none
 
     budget : stepsGiven two 1 (l ∷ c ∷ []) ≡ 8
     budget = eqb-true _ _ (one-of (eqb (stepsGiven two 1 (l ∷ c ∷ [])) 8) _ not-last (both (isOwn 1 l) _ ends .1))
