@@ -119,7 +119,7 @@ static void event_tick(struct pond *p, uint32_t said, uint32_t resource)
 
 	for (uint32_t i = 0; i < p->t.count; i++) {
 		p->n.pending += p->s.job[i].pending;
-		p->n.held += p->s.job[i].holds;
+		p->n.held += p->s.job[i].depth > 0;
 	}
 	answer = whole_tick(&p->t, &p->s, said, resource);
 	must(answer.number == SUCCESS);
@@ -148,14 +148,15 @@ static void busy_tick(struct pond *p)
 	struct chosen c = choose(&p->t, &p->s);
 	const struct task *task = &p->t.task[c.runner];
 	const struct job *job = &p->s.job[c.runner];
+	const struct section *section = &job->section[0];
 
 	if (!c.runs)
 		event_tick(p, CARRY_ON, 0);
 	else if (job->used + c.speed >= task->C)
 		event_tick(p, DONE, 0);
-	else if (!job->holds)
+	else if (job->depth == 0)
 		event_tick(p, TAKE, resource_of(task));
-	else if (job->section + 2 * c.speed > task->limit[job->resource])
+	else if (section->steps + 2 * c.speed > task->limit[section->resource])
 		event_tick(p, GIVE, 0);
 	else
 		event_tick(p, CARRY_ON, 0);

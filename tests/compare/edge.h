@@ -172,16 +172,16 @@ static uint32_t draw_count(struct chance *c)
 	}
 }
 
-/* A table that passes, mostly at the edge. */
-static void draw_passing(struct chance *c, struct draft *d, uint32_t D_style)
+/* A table of so many tasks, or of fewer, that passes, mostly at the edge. */
+static void draw_tasks(struct chance *c, struct draft *d, uint32_t count,
+	uint32_t D_style, uint32_t style)
 {
 	struct table *t = &d->t;
-	uint32_t style = below(c, 32);
 	uint32_t rarity = between(c, 1, 4);
 
 	memset(d, 0, sizeof *d);
 	d->first_tick = draw_first_tick(c);
-	t->count = draw_count(c);
+	t->count = count;
 	t->F = draw_F(c);
 	t->G = draw_round(c);
 	draw_Ds(c, t, D_style);
@@ -193,4 +193,33 @@ static void draw_passing(struct chance *c, struct draft *d, uint32_t D_style)
 		grow(c, t);
 	if (!one_in(c, 4))
 		to_edge(c, t);
+}
+
+static void draw_passing(struct chance *c, struct draft *d, uint32_t D_style)
+{
+	uint32_t count = draw_count(c);
+	uint32_t style = below(c, 32);
+
+	draw_tasks(c, d, count, D_style, style);
+}
+
+/* A few tasks in layers with time for many sections, so that several jobs hold
+ * several each. */
+static void draw_layers(struct chance *c, struct draft *d)
+{
+	uint32_t count = between(c, 3, 6);
+	uint32_t style = between(c, 16, 31);
+
+	draw_tasks(c, d, count, LONG_D, style);
+}
+
+/* Limits anywhere below where they are, so that sections come to their ends
+ * before the budget does, and inner and outer ones in any order. */
+static void shorten_sections(struct chance *c, struct table *t)
+{
+	for (uint32_t i = 0; i < t->count; i++)
+		for (uint32_t r = 0; r < RESOURCES; r++)
+			if (t->task[i].limit[r] > 1)
+				t->task[i].limit[r] = (uint16_t)between(c, 1,
+					t->task[i].limit[r]);
 }

@@ -2,12 +2,12 @@
 
 /* How releases and reports are chosen. */
 enum {
-	EARLIEST, ONE_LATE, AT_RANDOM, RARELY, IN_AMBUSH, ONE_TOO_EARLY,
-	RELEASE_HABITS
+	EARLIEST, ONE_LATE, AT_RANDOM, RARELY, IN_AMBUSH, IN_LAYERS,
+	ONE_TOO_EARLY, RELEASE_HABITS
 };
 enum {
-	WHOLE_BUDGET, NEVER_GIVE, LONGEST_SECTIONS, OFTEN, AT_ONCE, AT_CUT,
-	BEFORE_CUT, WILD, REPORT_HABITS
+	WHOLE_BUDGET, NEVER_GIVE, LONGEST_SECTIONS, AT_LIMITS, OFTEN, AT_ONCE,
+	AT_CUT, BEFORE_CUT, WILD, REPORT_HABITS
 };
 
 struct play {
@@ -18,6 +18,7 @@ struct play {
 	struct state s;
 	uint32_t releases;          /* habit */
 	uint32_t reports;           /* habit */
+	uint32_t nest;              /* habit: sections inside each other, most */
 	uint32_t refusals;          /* one event in so many; 0 none */
 	uint32_t ready[TASKS];      /* ticks closed with the wait at 0 */
 };
@@ -25,6 +26,7 @@ struct play {
 static void draw_habits(struct play *p)
 {
 	static const uint32_t refusals[] = {0, 0, 100, 40, 8};
+	static const uint32_t nests[] = {1, 2, 3, SECTIONS, SECTIONS, SECTIONS};
 
 	p->releases = below(p->c, RELEASE_HABITS);
 	if (p->releases == RARELY && !one_in(p->c, 4))
@@ -33,7 +35,8 @@ static void draw_habits(struct play *p)
 		p->releases = EARLIEST;
 	p->reports = below(p->c, REPORT_HABITS);
 	if (one_in(p->c, 3))
-		p->reports = LONGEST_SECTIONS;
+		p->reports = one_in(p->c, 2) ? LONGEST_SECTIONS : AT_LIMITS;
+	p->nest = nests[below(p->c, 6)];
 	p->refusals = refusals[below(p->c, 5)];
 }
 
@@ -66,7 +69,7 @@ static void play_tick(struct play *p, uint32_t said, uint32_t resource)
 static bool any_holds(const struct play *p)
 {
 	for (uint32_t i = 0; i < p->t->count; i++)
-		if (p->s.job[i].holds)
+		if (p->s.job[i].depth > 0)
 			return true;
 	return false;
 }
@@ -101,11 +104,32 @@ static bool wants_release(struct play *p, uint32_t i)
 	}
 }
 
+/* Over a runner that holds, the last position before it that may be released,
+ * so that holders come to stand behind holders; over nobody the last of all. */
+static void play_layer(struct play *p)
+{
+	struct chosen next = choose(p->t, &p->s);
+	uint32_t i = next.runs ? next.runner : p->t->count;
+	uint32_t wanted = between(p->c, 1, 2);
+
+	if (next.runs && p->s.job[i].depth < wanted)
+		return;
+	while (i-- > 0)
+		if (p->s.job[i].wait == 0) {
+			play_release(p, i);
+			return;
+		}
+}
+
 static void play_releases(struct play *p)
 {
 	uint32_t n = p->t->count;
 	uint32_t first = below(p->c, n);
 
+	if (p->releases == IN_LAYERS) {
+		play_layer(p);
+		return;
+	}
 	for (uint32_t k = 0; k < n; k++) {
 		uint32_t i = (first + k) % n;
 
@@ -165,15 +189,18 @@ static void play_refused(struct play *p)
 		play_refused_tick(p);
 }
 
-/* Takes some resource that the runner may take, or carries on. */
+/* Takes some resource that the runner may take, or carries on. In layers half
+ * of the time the last, which is the one that fewest tasks are blocked by. */
 static void play_take(struct play *p, uint32_t runner)
 {
+	const struct job *job = &p->s.job[runner];
 	uint32_t first = below(p->c, RESOURCES);
+	bool last = p->releases == IN_LAYERS && one_in(p->c, 2);
 
-	for (uint32_t k = 0; k < RESOURCES; k++) {
-		uint32_t r = (first + k) % RESOURCES;
+	for (uint32_t k = 0; job->depth < p->nest && k < RESOURCES; k++) {
+		uint32_t r = last ? RESOURCES - 1 - k : (first + k) % RESOURCES;
 
-		if (p->t->task[runner].limit[r] > 0) {
+		if (p->t->task[runner].limit[r] > 0 && !holds(job, r)) {
 			play_tick(p, TAKE, r);
 			return;
 		}
@@ -181,24 +208,80 @@ static void play_take(struct play *p, uint32_t runner)
 	play_tick(p, CARRY_ON, 0);
 }
 
-/* Takes at once, and gives back in the last tick before the section's cut. */
-static void play_longest_section(struct play *p, struct chosen next)
+/* Whether some section is at its limit before its turn to be given back comes,
+ * after those inside it, if giving back begins `late` ticks from now. */
+static bool comes_late(const struct play *p, struct chosen next, uint32_t late)
 {
 	const struct job *job = &p->s.job[next.runner];
 	const struct task *task = &p->t->task[next.runner];
 
-	if (!job->holds)
+	for (uint32_t k = 0; k < job->depth; k++) {
+		struct section section = job->section[k];
+		uint32_t inside = job->depth - 1 - k;
+
+		if (section.steps + next.speed * (inside + late)
+			>= task->limit[section.resource])
+			return true;
+	}
+	return false;
+}
+
+/* Takes at once, and more inside it, and gives back in the last tick in which
+ * no section is cut. One taken now is to be given back first, so a take is two
+ * ticks for those around it. */
+static void play_longest_section(struct play *p, struct chosen next)
+{
+	uint32_t depth = p->s.job[next.runner].depth;
+
+	if (depth == 0)
 		play_take(p, next.runner);
-	else if (job->section + next.speed >= task->limit[job->resource])
+	else if (comes_late(p, next, 1))
 		play_tick(p, GIVE, 0);
+	else if (!comes_late(p, next, 2) && one_in(p->c, 2))
+		play_take(p, next.runner);
 	else
 		play_tick(p, CARRY_ON, 0);
 }
 
+/* Whether some section comes to its limit in this tick. */
+static bool comes_to_limit(const struct play *p, struct chosen next)
+{
+	const struct job *job = &p->s.job[next.runner];
+	const struct task *task = &p->t->task[next.runner];
+
+	for (uint32_t k = 0; k < job->depth; k++)
+		if (job->section[k].steps + next.speed
+			>= task->limit[job->section[k].resource])
+			return true;
+	return false;
+}
+
+/* Takes and carries on, and where a section comes to its limit gives or takes
+ * or carries on. */
+static void play_at_limits(struct play *p, struct chosen next)
+{
+	if (comes_to_limit(p, next) && one_in(p->c, 2))
+		play_tick(p, GIVE, 0);
+	else if (one_in(p->c, 3))
+		play_tick(p, CARRY_ON, 0);
+	else
+		play_take(p, next.runner);
+}
+
+/* Gives if it holds as many as it may, takes if it holds none, else one of the
+ * two. */
+static void play_take_or_give(struct play *p, uint32_t runner)
+{
+	uint32_t depth = p->s.job[runner].depth;
+
+	if (depth > 0 && (depth >= p->nest || one_in(p->c, 3)))
+		play_tick(p, GIVE, 0);
+	else
+		play_take(p, runner);
+}
+
 static void play_wild(struct play *p, struct chosen next)
 {
-	bool holds = p->s.job[next.runner].holds;
-
 	switch (below(p->c, 8)) {
 	case 0:
 		play_tick(p, DONE, 0);
@@ -206,25 +289,20 @@ static void play_wild(struct play *p, struct chosen next)
 	case 1:
 	case 2:
 	case 3:
-		if (holds)
-			play_tick(p, GIVE, 0);
-		else
-			play_take(p, next.runner);
+		play_take_or_give(p, next.runner);
 		break;
 	default:
 		play_tick(p, CARRY_ON, 0);
 	}
 }
 
-/* Takes and gives, half of the time each. */
+/* Takes and gives, half of the time. */
 static void play_often(struct play *p, struct chosen next)
 {
 	if (one_in(p->c, 2))
 		play_tick(p, CARRY_ON, 0);
-	else if (p->s.job[next.runner].holds)
-		play_tick(p, GIVE, 0);
 	else
-		play_take(p, next.runner);
+		play_take_or_give(p, next.runner);
 }
 
 /* The report on the runner that the choice rules will give. */
@@ -238,10 +316,10 @@ static void play_report(struct play *p, struct chosen next)
 		play_tick(p, CARRY_ON, 0);
 		break;
 	case NEVER_GIVE:
-		if (job->holds)
-			play_tick(p, CARRY_ON, 0);
-		else
-			play_take(p, next.runner);
+		play_take(p, next.runner);
+		break;
+	case AT_LIMITS:
+		play_at_limits(p, next);
 		break;
 	case OFTEN:
 		play_often(p, next);

@@ -41,11 +41,17 @@ static size_t draw_length(struct chance *c)
 static void draw_busy(struct chance *c, struct draft *d)
 {
 	uint32_t tries = 0;
+	bool layers = one_in(c, 6);
 
-	do
-		draw_passing(c, d, one_in(c, 8) ? ANY_D
-			: between(c, CLOSE_D, SHORT_AND_LONG_D));
-	while (d->t.count < 3 && ++tries < 4);
+	do {
+		if (layers)
+			draw_layers(c, d);
+		else
+			draw_passing(c, d, one_in(c, 8) ? ANY_D
+				: between(c, CLOSE_D, SHORT_AND_LONG_D));
+	} while (d->t.count < 3 && ++tries < 4);
+	if (one_in(c, 3))
+		shorten_sections(c, &d->t);
 }
 
 static void make_wide(struct chance *c, struct file *f)

@@ -51,7 +51,7 @@ static uint32_t draw_divisor(struct chance *c, uint32_t G, uint32_t low,
 	return list[below(c, count)];
 }
 
-enum { ANY_D, CLOSE_D, FEW_D, SHORT_AND_LONG_D, D_STYLES };
+enum { ANY_D, CLOSE_D, FEW_D, SHORT_AND_LONG_D, D_STYLES, LONG_D = D_STYLES };
 
 static ticks draw_D(struct chance *c, const struct table *t, uint32_t style,
 	const ticks few[3])
@@ -67,6 +67,8 @@ static ticks draw_D(struct chance *c, const struct table *t, uint32_t style,
 		if (one_in(c, 2))
 			return draw_divisor(c, t->G, n, 4 * n + 4);
 		return draw_divisor(c, t->G, 8 * n, 40 * n + 100);
+	case LONG_D:
+		return draw_divisor(c, t->G, 12 * n, 80 * n + 100);
 	default:
 		return draw_divisor(c, t->G, 1, NUMBER_MOST);
 	}

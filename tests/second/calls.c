@@ -18,7 +18,7 @@
 #include <inttypes.h>
 
 /* A text that fills the buffer may go on past it, so none of it is run. */
-enum { COMMAND_BYTES = 65536 };
+enum { COMMAND_BYTES = 262144 };
 
 /* Stands for '-', where a command may say that there is none. No number that
  * may stand in such a place is as large. */
@@ -196,17 +196,16 @@ static void set_state(struct desk *d, struct command *c)
 		d->state = state;
 }
 
-/* Where nothing is held, the steps in a section are not looked at. */
-static void read_section(struct command *c, struct job *job)
+/* A stack of one section, or an empty one: the steps are not looked at then. */
+static void read_stack(struct command *c, struct job *job)
 {
 	uint64_t resource = read_number_or_none(c, UINT8_MAX);
-	steps section = read_number32(c, UINT16_MAX);
+	uint16_t in_section = (uint16_t)read_number(c, UINT16_MAX);
 
 	if (resource == NONE)
 		return;
-	job->holds = true;
-	job->resource = (uint8_t)resource;
-	job->section = section;
+	job->depth = 1;
+	job->section[0] = (struct section){(uint16_t)resource, in_section};
 }
 
 static void set_job(struct desk *d, struct command *c)
@@ -218,10 +217,33 @@ static void set_job(struct desk *d, struct command *c)
 	job.started = read_number(c, 1) == 1;
 	job.deadline = read_number32(c, UINT32_MAX);
 	job.used = read_number32(c, UINT16_MAX);
-	read_section(c, &job);
+	read_stack(c, &job);
 	job.wait = read_number32(c, UINT16_MAX);
 	if (whole(c))
 		d->state.job[position] = job;
+}
+
+/* Stacks that no run has are set by these two: one changes how many places are
+ * in use and not what stands in them, the other what stands in one of them. */
+static void set_depth(struct desk *d, struct command *c)
+{
+	uint32_t position = read_number32(c, TASKS - 1);
+	uint8_t depth = (uint8_t)read_number(c, UINT8_MAX);
+
+	if (whole(c))
+		d->state.job[position].depth = depth;
+}
+
+static void set_section(struct desk *d, struct command *c)
+{
+	uint32_t position = read_number32(c, TASKS - 1);
+	uint32_t place = read_number32(c, SECTIONS - 1);
+	uint16_t resource = (uint16_t)read_number(c, UINT8_MAX);
+	uint16_t in_section = (uint16_t)read_number(c, UINT16_MAX);
+
+	if (whole(c))
+		d->state.job[position].section[place]
+			= (struct section){resource, in_section};
 }
 
 /* ---- The whole state in text ------------------------------------------- */
@@ -234,14 +256,30 @@ static void print_position_or_none(bool is_one, uint32_t position)
 		printf(" -");
 }
 
-/* The steps in a section are printed where nothing is held too, so that steps
- * left behind there are seen. */
+/* The command that sets a job, which says a stack of at most one section. */
 static void print_job(uint32_t position, const struct job *job)
 {
 	printf(", job %" PRIu32 " %d %d %" PRIu32 " %" PRIu32, position,
 		job->pending, job->started, job->deadline, job->used);
-	print_position_or_none(job->holds, job->resource);
-	printf(" %" PRIu32 " %" PRIu32, job->section, job->wait);
+	print_position_or_none(job->depth > 0, job->section[0].resource);
+	printf(" %d %" PRIu32, job->depth > 0 ? job->section[0].steps : 0,
+		job->wait);
+}
+
+/* What that command does not say of the stack. What stands in a place is
+ * printed where the place is not in use too, so that what is left behind there
+ * is seen. */
+static void print_stack(uint32_t position, const struct job *job)
+{
+	if (job->depth > 1)
+		printf(", depth %" PRIu32 " %d", position, job->depth);
+	for (uint32_t k = job->depth > 0; k < SECTIONS; k++) {
+		struct section section = job->section[k];
+
+		if (section.resource != 0 || section.steps != 0)
+			printf(", section %" PRIu32 " %" PRIu32 " %d %d",
+				position, k, section.resource, section.steps);
+	}
 }
 
 static void show(struct desk *d, struct command *c)
@@ -258,8 +296,10 @@ static void show(struct desk *d, struct command *c)
 	else
 		printf(" -");
 	for (uint32_t i = 0; i < TASKS; i++)
-		if (!empty_but_wait(&s->job[i]) || s->job[i].wait != 0)
+		if (!empty_but_wait(&s->job[i]) || s->job[i].wait != 0) {
 			print_job(i, &s->job[i]);
+			print_stack(i, &s->job[i]);
+		}
 	printf("\n");
 }
 
@@ -364,6 +404,7 @@ static const struct {
 	void (*run)(struct desk *d, struct command *c);
 } commands[] = {
 	{"table", set_table}, {"state", set_state}, {"job", set_job},
+	{"depth", set_depth}, {"section", set_section},
 	{"fresh", call_start}, {"release", call_release},
 	{"choose", call_choice}, {"report", call_report},
 	{"tick", call_whole_tick}, {"show", show}

@@ -4,8 +4,9 @@
  * A second program that steps the rules of the paper ("Build description and
  * exact rules") independently: an admission test over a task table, and a
  * machine that dispatches jobs tick by tick under earliest deadline first with
- * the Stack Resource Policy, in two modes. Phrases in quotation marks are the
- * paper's.
+ * the Stack Resource Policy, in two modes; with it, Ask 1 of the change
+ * requests, sections inside sections. Phrases in quotation marks are the
+ * papers'.
  *
  *   second FILE     lists that file
  *   second          lists standard input
@@ -31,6 +32,7 @@ typedef uint32_t steps;
 enum {
 	TASKS = 16,
 	RESOURCES = 8,
+	SECTIONS = 4, /* "A job shall hold up to four resources" */
 	NO_POSITION = TASKS, /* stands for "none" where a position is looked for */
 	FULL_SPEED_MOST = 64,
 	ROUND_MOST = 1000000,
@@ -89,17 +91,23 @@ struct verdict {
 	uint32_t position;
 };
 
+/* A resource held, and the "steps in that section", which are at most a limit.
+ * Both have 16 bits, so that a stack of them has no gaps. */
+struct section {
+	uint16_t resource;
+	uint16_t steps;
+};
+
 /* "for each task: pending or not, started or not, deadline, steps used,
  * resource held or none, steps in that section, and the wait until the next
- * release" */
+ * release". "A job's record holds a short stack, no resource twice". */
 struct job {
 	bool pending;
 	bool started;
-	bool holds;
-	uint8_t resource;           /* 0 where it holds none */
+	uint8_t depth;              /* sections held */
+	struct section section[SECTIONS]; /* outermost first; 0 from depth on */
 	ticks deadline;
 	steps used;
-	steps section;
 	ticks wait;
 };
 
@@ -313,19 +321,26 @@ static uint32_t first_job(const struct table *t, const struct state *s,
 	return first;
 }
 
+/* "consistency, blocking and the mark read all of it", the stack. Whether it
+ * has a resource whose ceiling is at most D. */
+static bool stack_blocks(const struct table *t, const struct job *job, ticks D)
+{
+	for (uint32_t k = 0; k < job->depth; k++)
+		if (ceiling(t, job->section[k].resource) <= D)
+			return true;
+	return false;
+}
+
 /* "It is blocked if it is not started and another pending job holds a resource
  * whose ceiling is at most top's D." */
 static bool blocked(const struct table *t, const struct state *s, uint32_t top)
 {
 	if (s->job[top].started)
 		return false;
-	for (uint32_t i = 0; i < t->count; i++) {
-		const struct job *job = &s->job[i];
-
-		if (i != top && job->pending && job->holds
-			&& ceiling(t, job->resource) <= t->task[top].D)
+	for (uint32_t i = 0; i < t->count; i++)
+		if (i != top && s->job[i].pending
+			&& stack_blocks(t, &s->job[i], t->task[top].D))
 			return true;
-	}
 	return false;
 }
 
@@ -339,7 +354,7 @@ static uint32_t last_holder_behind(const struct table *t,
 	for (uint32_t i = 0; i < t->count; i++) {
 		const struct job *job = &s->job[i];
 
-		if (job->pending && job->holds && job_order(s, i) > most) {
+		if (job->pending && job->depth > 0 && job_order(s, i) > most) {
 			most = job_order(s, i);
 			last = i;
 		}
@@ -451,27 +466,54 @@ static struct chosen choose(const struct table *t, const struct state *s)
 
 /* ---- Consistency ------------------------------------------------------- */
 
+/* Nothing, and the places of the stack are 0: "what is not in use is 0". */
+static bool holds_nothing(const struct job *job)
+{
+	static const struct section none[SECTIONS];
+
+	return job->depth == 0 && memcmp(job->section, none, sizeof none) == 0;
+}
+
+/* The places of the stack that are not in use are 0. */
+static bool zero_from_depth(const struct job *job)
+{
+	uint32_t seen = 0;
+
+	for (uint32_t k = job->depth; k < SECTIONS; k++)
+		seen |= (uint32_t)job->section[k].resource | job->section[k].steps;
+	return seen == 0;
+}
+
 /* "a job that is not pending is not started, has used 0 and holds nothing",
  * and "what is not in use is 0". The wait is in use all the same. */
 static bool empty_but_wait(const struct job *job)
 {
-	return !job->pending && !job->started && !job->holds
-		&& job->resource == 0 && job->deadline == 0
-		&& job->used == 0 && job->section == 0;
+	return !job->pending && !job->started && job->deadline == 0
+		&& job->used == 0 && holds_nothing(job);
 }
 
-/* "a held resource has limit above 0, its section steps are below the limit";
- * where none is held its places are not in use. */
-static bool section_consistent(const struct task *task, const struct job *job)
+/* "a held resource has limit above 0, its section steps are below the limit,
+ * and no other job holds it", nor the job itself twice. `held` has the
+ * resources of the stacks before this one, a bit each; this one's are added. */
+static bool stack_consistent(const struct task *task, const struct job *job,
+	uint32_t *held)
 {
-	if (!job->holds)
-		return job->resource == 0 && job->section == 0;
-	return job->resource < RESOURCES && task->limit[job->resource] > 0
-		&& job->section < task->limit[job->resource];
+	if (job->depth > SECTIONS)
+		return false;
+	for (uint32_t k = 0; k < job->depth; k++) {
+		uint32_t resource = job->section[k].resource;
+
+		/* A limit that something is below is above 0. */
+		if (resource >= RESOURCES || (*held >> resource & 1) != 0
+			|| job->section[k].steps >= task->limit[resource])
+			return false;
+		*held |= UINT32_C(1) << resource;
+	}
+	return zero_from_depth(job);
 }
 
 static bool job_consistent(const struct task *task, const struct job *job,
-	ticks now)
+	ticks now, uint32_t *held)
 {
 	ticks distance = ahead(job->deadline, now);
 
@@ -481,34 +523,23 @@ static bool job_consistent(const struct task *task, const struct job *job,
 	if (!job->pending)
 		return empty_but_wait(job);
 	/* "a job not started has used 0 and holds nothing" */
-	if (!job->started && (job->used != 0 || job->holds))
+	if (!job->started && (job->used != 0 || job->depth != 0))
 		return false;
 	/* "a pending job has used less than C, its deadline is 1 to D ticks
 	 * ahead, and its wait is that distance plus T - D" */
 	return job->used < task->C && 1 <= distance && distance <= task->D
 		&& job->wait == distance + (task->T - task->D)
-		&& section_consistent(task, job);
+		&& stack_consistent(task, job, held);
 }
 
-/* Every place of a task; "no other job holds it"; "every place past the task
- * count" is 0. */
+/* Every place of a task; "every place past the task count" is 0. */
 static bool jobs_consistent(const struct table *t, const struct state *s)
 {
 	uint32_t held = 0; /* resources, one bit each */
 
-	for (uint32_t i = 0; i < t->count; i++) {
-		const struct job *job = &s->job[i];
-
-		if (!job_consistent(&t->task[i], job, s->tick))
+	for (uint32_t i = 0; i < t->count; i++)
+		if (!job_consistent(&t->task[i], &s->job[i], s->tick, &held))
 			return false;
-		if (job->holds) {
-			uint32_t bit = UINT32_C(1) << job->resource;
-
-			if ((held & bit) != 0)
-				return false;
-			held |= bit;
-		}
-	}
 	for (uint32_t i = t->count; i < TASKS; i++)
 		if (!empty_but_wait(&s->job[i]) || s->job[i].wait != 0)
 			return false;
@@ -623,16 +654,34 @@ static struct answer choice(const struct table *t, struct state *s)
 	return goes_on(c);
 }
 
+static bool holds(const struct job *job, uint32_t resource)
+{
+	for (uint32_t k = 0; k < job->depth; k++)
+		if (job->section[k].resource == resource)
+			return true;
+	return false;
+}
+
+/* "14 now means taking one already held, taking a fifth, giving when none is
+ * held, or, at an idle tick, anything but carry on". "one already held" is one
+ * of this job: 15 is left for another's. */
+static bool report_fits(const struct state *s, uint32_t said,
+	uint32_t resource)
+{
+	const struct job *job = &s->job[s->runner];
+
+	if (!s->runs)
+		return said == CARRY_ON;
+	if (said == TAKE)
+		return job->depth < SECTIONS && !holds(job, resource);
+	return said != GIVE || job->depth > 0;
+}
+
 /* Numbers 14, 13, 15 of a report, in this order; 0 if it may be done. */
 static uint32_t report_number(const struct table *t, const struct state *s,
 	uint32_t said, uint32_t resource)
 {
-	bool holds = s->runs && s->job[s->runner].holds;
-
-	/* "take while holding, give while holding none, or any report but carry
-	 * on at an idle tick" */
-	if ((said == TAKE && holds) || (said == GIVE && !holds)
-		|| (said != CARRY_ON && !s->runs))
+	if (!report_fits(s, said, resource))
 		return REPORT_DOES_NOT_FIT;
 	if (said != TAKE)
 		return SUCCESS;
@@ -642,8 +691,7 @@ static uint32_t report_number(const struct table *t, const struct state *s,
 		return TAKE_NOT_ALLOWED;
 	/* "take of a resource that another job holds" */
 	for (uint32_t i = 0; i < t->count; i++)
-		if (i != s->runner && s->job[i].holds
-			&& s->job[i].resource == resource)
+		if (i != s->runner && holds(&s->job[i], resource))
 			return HELD_BY_ANOTHER;
 	return SUCCESS;
 }
@@ -661,30 +709,49 @@ static uint32_t end_job(struct job *job, uint32_t ending)
 	return ending;
 }
 
+/* "The runner's steps used rise by the speed, up to C." "Each limit is still
+ * counted from its own taking, and each section's steps rise with every tick of
+ * its job." */
+static void rise(const struct task *task, struct job *job, steps speed)
+{
+	job->used = rise_up_to(job->used, speed, task->C);
+	for (uint32_t k = 0; k < job->depth; k++) {
+		struct section *section = &job->section[k];
+
+		section->steps = (uint16_t)rise_up_to(section->steps, speed,
+			task->limit[section->resource]);
+	}
+}
+
+static bool at_a_limit(const struct task *task, const struct job *job)
+{
+	for (uint32_t k = 0; k < job->depth; k++)
+		if (job->section[k].steps
+			== task->limit[job->section[k].resource])
+			return true;
+	return false;
+}
+
 /* The steps of the tick, and then what was reported; the ending. */
 static uint32_t run_job(const struct task *task, struct job *job, steps speed,
 	uint32_t said, uint32_t resource)
 {
-	/* "The runner's steps used rise by the speed, up to C. If it holds, its
-	 * section steps rise by the speed, up to the limit." */
-	job->used = rise_up_to(job->used, speed, task->C);
-	if (job->holds)
-		job->section = rise_up_to(job->section, speed,
-			task->limit[job->resource]);
+	rise(task, job, speed);
 	/* "Then: done ends the job; else steps used = C ends it as cut; else take
-	 * or give is done; else a holder at its limit is ended as cut." */
+	 * or give is done". "A section starts at 0 steps"; they are "given back in
+	 * the reverse of their taking". */
 	if (said == DONE)
 		return end_job(job, ENDED_DONE);
 	if (job->used == task->C)
 		return end_job(job, ENDED_CUT);
-	if (said == TAKE || said == GIVE) {
-		/* "A section starts at 0 steps." */
-		job->holds = said == TAKE;
-		job->resource = said == TAKE ? (uint8_t)resource : 0;
-		job->section = 0;
-	} else if (job->holds && job->section == task->limit[job->resource]) {
+	if (said == TAKE)
+		job->section[job->depth++] = (struct section){(uint16_t)resource, 0};
+	else if (said == GIVE)
+		job->section[--job->depth] = (struct section){0, 0};
+	/* "else a holder at its limit is ended as cut", and now "a job that still
+	 * holds a section at its limit after a take or a give" too. */
+	if (at_a_limit(task, job))
 		return end_job(job, ENDED_CUT);
-	}
 	return GOES_ON;
 }
 
