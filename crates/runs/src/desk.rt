@@ -2,13 +2,13 @@
 use crate::line::Line;
 use crate::word;
 use state::Half;
-use state::Held;
 use state::Job;
 use state::Mark;
 use state::Place;
 use state::Report;
 use state::Runner;
 use state::Section;
+use state::Stack;
 use state::State;
 use table::Table;
 use table::Task;
@@ -101,16 +101,18 @@ pub(crate) fn state(line: Line) -> State {
     }
 }
 
-// Where nothing is held, the steps are not looked at.
-fn held(value: u64, spent: u64) -> Held {
-    let steps = Steps(short(spent));
-    match value {
-        Line::NONE => Held::Nothing,
-        _ => Held::In(Section {
+// One section at the most. Where nothing is held, the steps are not looked at.
+fn held(value: u64, spent: u64) -> Stack {
+    let mut stack = Stack::EMPTY;
+    if value != Line::NONE {
+        let steps = Steps(short(spent));
+        stack.depth = 1;
+        stack.sections[0] = Section {
             resource: byte(value),
             steps,
-        }),
+        };
     }
+    stack
 }
 
 pub(crate) fn with_job(state: State, line: Line) -> State {
@@ -128,6 +130,30 @@ pub(crate) fn with_job(state: State, line: Line) -> State {
     };
     let mut next = state;
     next.jobs[(line.first % 16) as usize] = job;
+    next
+}
+
+// A job's stack with another depth, or with another section at a place.
+pub(crate) fn with_stack(state: State, position: u64, line: Line) -> State {
+    let index = (position % 16) as usize;
+    let word = line.word;
+    let mut job = state.jobs[index];
+    let mut stack = job.held;
+    match word {
+        word::DEPTH => {
+            stack.depth = byte(line.eighth);
+        }
+        _ => {
+            let steps = Steps(short(line.eighth));
+            stack.sections[(line.sixth % 4) as usize] = Section {
+                resource: byte(line.seventh),
+                steps,
+            };
+        }
+    }
+    job.held = stack;
+    let mut next = state;
+    next.jobs[index] = job;
     next
 }
 

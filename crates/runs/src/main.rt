@@ -38,6 +38,8 @@ fn set(table: Table, state: State, line: Line) -> State {
         word::FRESH => fresh(table, line.eighth),
         word::STATE => desk::state(line),
         word::JOB => desk::with_job(state, line),
+        word::DEPTH => desk::with_stack(state, line.seventh, line),
+        word::SECTION => desk::with_stack(state, line.fifth, line),
         word::SHOW => {
             print::state(state);
             state

@@ -2,11 +2,11 @@
 use crate::word;
 use libc::STDOUT_FILENO;
 use state::Half;
-use state::Held;
 use state::Job;
 use state::Mark;
 use state::Mode;
 use state::Runner;
+use state::Stack;
 use state::State;
 
 pub(crate) fn put(byte: u8) {
@@ -70,38 +70,79 @@ fn mark(mark: Mark) {
     }
 }
 
-fn held(held: Held) {
-    match held {
-        Held::Nothing => {
+// The outermost section, if there is one.
+fn held(stack: Stack) {
+    let depth = stack.depth;
+    let outermost = stack.sections[0];
+    match depth {
+        0 => {
             sign(b'-');
             number(0);
         }
-        Held::In(section) => {
-            number(section.resource as u64);
-            number(section.steps.0 as u64);
+        _ => {
+            number(outermost.resource as u64);
+            number(outermost.steps.0 as u64);
         }
     }
 }
 
-// A job, as it is set by hand.
-fn job(position: usize, job: Job) {
+// A command that sets something of a job by hand.
+fn setting(name: u64, position: usize) {
     put(b',');
     put(b' ');
-    word(word::JOB);
+    word(name);
     number(position as u64);
+}
+
+// Whether a place of a stack is 0.
+fn is_free(stack: Stack, place: usize) -> bool {
+    let section = stack.sections[place % 4];
+    section.resource == 0 && section.steps.0 == 0
+}
+
+fn section(position: usize, stack: Stack, place: usize) {
+    let section = stack.sections[place % 4];
+    if !is_free(stack, place) {
+        setting(word::SECTION, position);
+        number(place as u64);
+        number(section.resource as u64);
+        number(section.steps.0 as u64);
+    }
+}
+
+// What a job's own command does not say of its stack.
+fn more(position: usize, stack: Stack) {
+    if 1 < stack.depth {
+        setting(word::DEPTH, position);
+        number(stack.depth as u64);
+    }
+    if stack.depth == 0 {
+        section(position, stack, 0);
+    }
+    section(position, stack, 1);
+    section(position, stack, 2);
+    section(position, stack, 3);
+}
+
+// A job, as it is set by hand.
+fn job(position: usize, job: Job) {
+    let stack = job.held;
+    setting(word::JOB, position);
     number(job.pending as u64);
     number(job.started as u64);
     number(job.deadline.0 as u64);
     number(job.used.0 as u64);
-    let section = job.held;
-    held(section);
+    held(stack);
     number(job.wait.0 as u64);
+    more(position, stack);
 }
 
 fn is_empty(job: Job) -> bool {
-    let held = job.held;
-    let flags = job.pending as u64 | job.started as u64 | held.any() as u64;
-    flags | job.deadline.0 as u64 | job.used.0 as u64 | job.wait.0 as u64 == 0
+    let flags = job.pending as u64 | job.started as u64;
+    let numbers = job.deadline.0 as u64 | job.used.0 as u64 | job.wait.0 as u64;
+    let stack = job.held;
+    let outer = stack.depth == 0 && is_free(stack, 0) && is_free(stack, 1);
+    outer && is_free(stack, 2) && is_free(stack, 3) && flags | numbers == 0
 }
 
 fn jobs(jobs: [Job; 16]) {

@@ -11,6 +11,10 @@ pub(crate) const STATE: u64 = 0x7374617465;
 
 pub(crate) const JOB: u64 = 0x6a6f62;
 
+pub(crate) const DEPTH: u64 = 0x6465707468;
+
+pub(crate) const SECTION: u64 = 0x73656374696f6e;
+
 pub(crate) const RELEASE: u64 = 0x72656c65617365;
 
 pub(crate) const CHOOSE: u64 = 0x63686f6f7365;
@@ -40,9 +44,9 @@ pub(crate) const NO: u64 = 0x6e6f;
 pub(crate) const COMMAND: u64 = 0x636f6d6d616e64;
 
 // What is to come in a line is its shape: a hexadecimal digit for each place, the next one last. These are the least and the most that a number may be, by
-// the digit of its place. A 3 is a resource, whose limit b follows. A 9 may also be '-'; so may an a, which is a mark's: its position follows. At the other
-// digits no number may stand.
-const LEAST: [u64; 16] = [1, 0, 1, 0, 0, 0, 0, 0, 0, 0, 0, 0, 1, 1, 1, 1];
+// the digit of its place. A 3 is a resource, whose limit b follows. A 9 may also be '-'; so may an a, which is a mark's: its position follows. A c is a place
+// on a stack. At the other digits no number may stand.
+const LEAST: [u64; 16] = [1, 0, 1, 0, 0, 0, 0, 0, 0, 0, 0, 0, 0, 1, 1, 1];
 
 const MOST: [u64; 16] = [
     0,
@@ -57,7 +61,7 @@ const MOST: [u64; 16] = [
     255,
     4294967295,
     65535,
-    0,
+    3,
     0,
     0,
     0,
@@ -72,11 +76,11 @@ pub(crate) const MARK: u64 = 0xa;
 pub(crate) const LIMIT: u64 = 0xb;
 
 // The word of a command is to come, or what is reported is; or the line is a note; or it is wrong.
-pub(crate) const BLANK: u64 = 0xc;
+pub(crate) const BLANK: u64 = 0xd;
 
-pub(crate) const REPORTED: u64 = 0xd;
+pub(crate) const REPORTED: u64 = 0xe;
 
-pub(crate) const NOTE: u64 = 0xe;
+pub(crate) const NOTE: u64 = 0xf0;
 
 pub(crate) const WRONG: u64 = 0xf;
 
@@ -91,6 +95,8 @@ pub(crate) fn shape(word: u64) -> u64 {
         FRESH => 0x7,
         STATE => 0x5a927,
         JOB => 0x66967114,
+        DEPTH => 0x54,
+        SECTION => 0x65c4,
         RELEASE => 0x8,
         CHOOSE | SHOW => 0,
         REPORT | TICK => REPORTED,
