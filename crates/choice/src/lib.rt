@@ -16,3 +16,13 @@ pub struct Choice {
     pub state: State,
     pub turn: Turn,
 }
+
+impl Turn {
+    // Nobody runs, and no mark stands.
+    pub const IDLE: Turn = Turn {
+        runner: Runner::Nobody,
+        mark: Mark::Absent,
+        mode: Mode::Independent,
+        speed: 0,
+    };
+}

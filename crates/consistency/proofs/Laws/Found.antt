@@ -1,10 +1,8 @@
 -- Each rule, over what a function finds on its way (a variant, a number that another function gives): where `search` goes on to the tests. Assumes nothing.
-use Prim.Native.Nat.{ℕ, _+_, _-_, _≤_}
-use mathlib.Core.Path.{_≡_, refl, sym, ap, _∙_}
-use mathlib.Core.Bool.{Bool, false, not, _&&_}
-use native.Mathlib.Omega.{arith}
+use Prim.Native.Nat.{ℕ, _+_, _-_}
+use mathlib.Core.Path.{_≡_}
+use mathlib.Core.Bool.{Bool, not, _&&_}
 use lib.Dec.{ltb, leb, eqb}
-use lib.ListN.{length, List·getD-eq-default}
 use Rattle.units.specs.declared.Steps.{Steps}
 use Rattle.units.specs.Amounts.{steps}
 use Rattle.units.specs.Clock.{distance}
@@ -21,16 +19,10 @@ use Rattle.state.specs.Stack.{sectionAt}
 use Rattle.state.specs.declared.Place.{Place}
 use Rattle.state.specs.declared.Mark.{Mark}
 use Rattle.state.specs.declared.Mark.the-variants.{At}
-use Rattle.state.specs.declared.Half.{Half}
-use Rattle.state.specs.declared.Half.the-variants.{Second}
 use Rattle.state.specs.declared.Runner.{Runner}
 use Rattle.state.specs.declared.Runner.the-variants as Runs
-use Rattle.state.specs.declared.State.{State}
 use Rattle.state.specs.State.{passes}
-use Rattle.state.proofs.Laws.Past.{pastJob, readAt, read-same}
-use Rattle.choice.specs.declared.Turn.{Turn}
-use Rattle.choice.specs.Choice.{turn}
-use Rattle.consistency.specs.Consistency.{pendingFits, sectionFits, markFits, sameRunner, sameMark, hasBegun, unchanged, halfFits}
+use Rattle.consistency.specs.Consistency.{pendingFits, sectionFits, markFits, sameRunner, sameMark}
 
 pub found-passes : (t : Table) {v : Verdict} {n : ℕ} {r : Bool} → v ≡ verdict t → n ≡ answer v .0 → eqb n 0 ≡ r → passes t ≡ r
 unfolding passes
@@ -64,13 +56,3 @@ found-runners e f h = rw (e, f) h
 
 pub found-marks : {a b : Mark} {l m : Place} {r : Bool} → a ≡ At l → b ≡ At m → r ≡ (eqb (l .deadline .0) (m .deadline .0) && eqb (l .position) (m .position)) → r ≡ sameMark a b
 found-marks e f h = rw (e, f) h
-
-module _ (s : State) {a : Runner} {p : ℕ} (e : a ≡ Runs.Job p) where
-  pub found-begun : {r : Bool} → r ≡ readAt s p .started → r ≡ hasBegun s a
-  found-begun h = rw e (h ∙ read-same (λ j. j .started) refl s p)
-
-  pub found-past : 16 ≤ p → length (s .jobs) ≡ 16 → false ≡ hasBegun s a
-  found-past l long = found-begun (sym (ap (λ (j : Job). j .started) (List·getD-eq-default (s .jobs) pastJob (omega arith))))
-
-pub found-second : (t : Table) (s : State) {h : Half} {u : Turn} {r : Bool} → h ≡ Second → u ≡ turn t s → r ≡ unchanged s u → r ≡ halfFits t s h
-found-second t s e f h = rw (e, ← f) h

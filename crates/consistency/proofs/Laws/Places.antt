@@ -49,11 +49,11 @@ module _ (t : Table) (s : State) where
         go (no q) = let l : t .count ≤ k = omega arith in and-true _ _ (stack-holds _ (g l .stack)) (cond-no _ _ (le-ltb _ _ l) ∙ unused-holds _ (g l))
 
     -- a resource that fits is one of 8
-    one-of-8 : length (taskAt t k .limits) ≡ 8 → positionFits t s k ≡ true → (r : ℕ) → holds r (held k) ≡ true → r < 8
+    one-of-8 : (k < t .count → length (taskAt t k .limits) ≡ 8) → positionFits t s k ≡ true → (r : ℕ) → holds r (held k) ≡ true → r < 8
     one-of-8 e h r q = go (decLt k (t .count))
       where
         go : Dec (k < t .count) → r < 8
-        go (yes l) = holds-one-of-8 (taskAt t k) (held k) e (used-tells h l .held) r q
+        go (yes l) = holds-one-of-8 (taskAt t k) (held k) (e l) (used-tells h l .held) r q
         go (no m) = absurd (false≢true (sym (past-tells h (omega arith) .absent .held) ∙ on-any _ (held k) q))
 
   pub places-tells : positionsFit t s ≡ true → (all (positionFits t s) 16 ≡ true) × Once s 16
@@ -77,7 +77,7 @@ module _ (t : Table) (s : State) where
   walk-none = record { within = omega arith; set = refl; fits = refl; once = once-none s }
 
   -- of the job that is read at n
-  abbrev fitting : ℕ → Job → Bool
+  abbrev pub fitting : ℕ → Job → Bool
   fitting n j = stackFits (j .held) && cond (ltb n (t .count)) (jobFits (taskAt t n) (s .tick .0) j) (unused j)
 
   module _ {n : ℕ} (l : n < 16) where
@@ -98,7 +98,7 @@ module _ (t : Table) (s : State) where
           let v = taken-tells s n (held n) (sym taken-is ∙ h) in
           omega (arith, v .2, places-tells e .1 (v .0) n (v .1) (omega (arith, v .2)) l (v .3) (v .4)))
 
-      pub walk-next : {m′ : ℕ} → m′ ≡ withHeld m (readAt s n .held) → isTaken m (readAt s n .held) ≡ false → fitting n (readAt s n) ≡ true → length (taskAt t n .limits) ≡ 8 → Walked m′ (n + 1)
+      pub walk-next : {m′ : ℕ} → m′ ≡ withHeld m (readAt s n .held) → isTaken m (readAt s n .held) ≡ false → fitting n (readAt s n) ≡ true → (n < t .count → length (taskAt t n .limits) ≡ 8) → Walked m′ (n + 1)
       unfolding over
       walk-next i h f e =
           let fit : positionFits t s n ≡ true = sym fitting-is ∙ f in

@@ -40,6 +40,16 @@ pub over-same : {A : Type 0} (p q : ℕ → Bool) (f g : ℕ → A → A) (z : A
     → over p f z n ≡ over q g z n
 over-same p q f g z n h e = over-had p q f g z n h (λ k x l b. e k x l)
 
+-- positions from n on that do not have p add nothing
+pub over-past : {A : Type 0} (p : ℕ → Bool) (f : ℕ → A → A) (z : A) (n m : ℕ) → n ≤ m → ((k : ℕ) → n ≤ k → k < m → p k ≡ false) → over p f z n ≡ over p f z m
+unfolding over
+over-past p f z n zero l h = let e : n ≡ 0 = omega arith in ap (over p f z) e
+over-past p f z n (suc m) l h =
+    ⊎-elim
+    (λ e. ap (over p f z) e)
+    (λ b. over-past p f z n m (omega arith) (λ k i j. h k i (omega arith)) ∙ rw (h m (omega arith) (omega arith)) refl)
+    (eq-or-lt-of-le l)
+
 pub sum-same : (f g : ℕ → ℕ) (n : ℕ) → ((k : ℕ) → k < n → f k ≡ g k) → sum f n ≡ sum g n
 unfolding sum
 sum-same f g n e = over-same _ _ _ _ 0 n (λ k l. refl) (λ k x l. ap (λ (y : ℕ). x + y) (e k l))

@@ -1,0 +1,10 @@
+pub mod Pass
+pub mod Walk
+pub mod Fits
+pub mod Runner
+pub mod Begun
+pub mod Rules
+pub mod Others
+pub mod Late
+pub mod Reports
+pub mod Examined
