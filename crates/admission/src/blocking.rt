@@ -6,7 +6,7 @@ ghost use lib.ListN.{getD};
 ghost use lib.Dec.{ltb, leb};
 ghost use Rattle.units.specs.Amounts.{ticks, steps};
 ghost use Rattle.units.specs.Folds.{largest};
-ghost use Rattle.table.specs.Table.{limit, D};
+ghost use Rattle.table.specs.Table.{limit, D, ceilings};
 ghost use Rattle.admission.specs.Admission.{B};
 use table::Table;
 use table::Task;
@@ -57,7 +57,7 @@ fn blocks_with(
     next
 }
 
-fn deadlines(t: Table) -> [Ticks; 16]
+pub(crate) fn deadlines(t: Table) -> [Ticks; 16]
     requires { ⌜ t .count ≤ 16 ⌝ }
     ensures { λ l. ⌜ ((i : ℕ) → i < t .count → getD l i (ticks 0) .0 ≡ D t i) ⌝ }
 {
@@ -71,18 +71,16 @@ fn deadlines(t: Table) -> [Ticks; 16]
     found
 }
 
-// B of each position.
-pub(crate) fn blocks(t: Table) -> [Steps; 16]
-    requires { ⌜ t .count ≤ 16 ⌝ }
+// B of each position, by the D of each and the ceilings.
+pub(crate) fn blocks(t: Table, deadlines: [Ticks; 16], levels: [Ticks; 8]) -> [Steps; 16]
+    requires { ⌜ (t .count ≤ 16) × ((i : ℕ) → i < t .count → getD deadlines i (ticks 0) .0 ≡ D t i) × (levels ≡ ceilings t) ⌝ }
     ensures { λ l. ⌜ ((i : ℕ) → i < t .count → getD l i (steps 0) .0 ≡ B t i) ⌝ }
 {
-    let deadlines = deadlines(t);
-    let ceilings = t.ceilings();
     let n = t.count;
     let mut found = [Steps(0); 16];
     for j in 0..n {
         let task = t.tasks[j];
-        let next = blocks_with(found, deadlines, ceilings, task);
+        let next = blocks_with(found, deadlines, levels, task);
         found = next;
     }
     found

@@ -37,5 +37,8 @@ pub fn verdict_of(t: Table) -> Verdict
     if (t.round as u64) < sums::independent_sum(t) {
         return Verdict::Independent;
     }
-    sums::first_overload(t)
+    let deadlines = blocking::deadlines(t);
+    let ceilings = t.ceilings();
+    let blocks = blocking::blocks(t, deadlines, ceilings);
+    sums::first_overload(t, blocks)
 }

@@ -1,10 +1,11 @@
 // Numbers 7 and 8: what a round is asked for.
 ghost use mathlib.Core.Path.{_≡_};
-ghost use Prim.Native.Nat.{_≤_, _*_};
+ghost use Prim.Native.Nat.{ℕ, _≤_, _<_, _*_};
+ghost use lib.ListN.{getD};
+ghost use Rattle.units.specs.Amounts.{steps};
 ghost use Rattle.units.specs.Folds.{sum, first};
-ghost use Rattle.admission.specs.Admission.{ticksInRound, independentSum, overloaded};
+ghost use Rattle.admission.specs.Admission.{ticksInRound, independentSum, overloaded, B};
 ghost use Rattle.verdict.specs.declared.Verdict.the-variants.{Passed, Synchronization};
-use crate::blocking;
 use table::Table;
 use units::Steps;
 use units::Ticks;
@@ -34,13 +35,12 @@ pub(crate) fn independent_sum(t: Table) -> u64
     sum
 }
 
-// The smallest position whose synchronization sum is above the round.
-pub(crate) fn first_overload(t: Table) -> Verdict
-    requires { ⌜ t .count ≤ 16 ⌝ }
+// The smallest position whose synchronization sum is above the round; `blocks` has B of each.
+pub(crate) fn first_overload(t: Table, blocks: [Steps; 16]) -> Verdict
+    requires { ⌜ (t .count ≤ 16) × ((i : ℕ) → i < t .count → getD blocks i (steps 0) .0 ≡ B t i) ⌝ }
     ensures { λ r. ⌜ r ≡ first (overloaded t) Synchronization Passed (t .count) ⌝ }
 {
     let n = t.count;
-    let blocks = blocking::blocks(t);
     let mut sum: u64 = 0;
     for i in 0..n {
         let task = t.tasks[i];

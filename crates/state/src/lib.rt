@@ -1,6 +1,7 @@
 // What the machine keeps from call to call, and what its calls are told and answer.
 ghost use mathlib.Core.Path.{_≡_};
-ghost use Rattle.state.specs.State.{fresh};
+ghost use Rattle.units.specs.Folds.{listed};
+ghost use Rattle.state.specs.State.{noJob, fresh};
 ghost use Rattle.state.specs.Answers.{bare};
 use table::Table;
 use units::Steps;
@@ -117,6 +118,20 @@ impl Job {
     };
 }
 
+// Sixteen places without a job. The loop changes nothing, but its bound is not known beforehand: so the compiler keeps a state in one
+// piece, and does not carry its two hundred numbers one by one through every call.
+fn no_jobs(count: usize) -> [Job; 16]
+    ensures { λ r. ⌜ r ≡ listed (λ k. noJob) 16 ⌝ }
+{
+    let mut jobs = [Job::NONE; 16];
+    if count <= State::TASKS {
+        for k in 0..count {
+            jobs[k] = Job::NONE;
+        }
+    }
+    jobs
+}
+
 impl State {
     pub const TASKS: usize = 16;
 
@@ -137,7 +152,7 @@ impl State {
         if verdict.number() == 0 {
             now = tick;
         }
-        let jobs = [Job::NONE; 16];
+        let jobs = no_jobs(table.count);
         let state = State {
             tick: now,
             jobs,

@@ -40,6 +40,15 @@ independent-sum-requires c κs = search needs
 returns-8 : tie.Need-returns-8
 returns-8 c = search says-independent
 
+deadlines-requires : tie.Need-deadlines-requires
+deadlines-requires c κs = search needs
+
+ceilings-requires : tie.Need-ceilings-requires
+ceilings-requires c κs = search needs
+
+blocks-requires : tie.Need-blocks-requires
+blocks-requires c κs = search needs
+
 first-overload-requires : tie.Need-first-overload-requires
 first-overload-requires c κs = search needs
 
@@ -62,5 +71,8 @@ verdict-of-spec =
     cast-if8
     independent-sum-requires
     returns-8
+    deadlines-requires
+    ceilings-requires
+    blocks-requires
     first-overload-requires
     returns-9)

@@ -11,23 +11,17 @@ use Rattle.admission.proofs.blocking.blocks.Statement.{statement}
 use Rattle.admission.proofs.blocking.blocks.Tie as tie
 
 abbrev Inv-loop : tie.InvT-loop
-Inv-loop t deadlines ceilings n found₀ j₀ found j = Blocked t deadlines ceilings found j
+Inv-loop deadlines levels t n found₀ j₀ found j = Blocked t deadlines levels found j
 
 abbrev μ-loop : tie.MeasureT-loop
-μ-loop t deadlines ceilings n found₀ j₀ found j = n - j
-
-deadlines-requires : tie.Need-deadlines-requires Inv-loop μ-loop
-deadlines-requires c κs = search needs
-
-ceilings-requires : tie.Need-ceilings-requires Inv-loop μ-loop
-ceilings-requires c κs = search needs
+μ-loop deadlines levels t n found₀ j₀ found j = n - j
 
 loop-holds : tie.Need-loop-holds Inv-loop μ-loop
 unfolding largest over
 loop-holds c = record {
   within = omega arith;
-  lengths = c .before .deadlines .ensures;
-  levels = c .ceilings .ensures;
+  lengths = c .pre .1;
+  levels = c .pre .2;
   blocks = λ i m. ap (λ (s : Steps). s .0) (getD-replicate 16 i (steps 0) (steps 0) (omega arith));
 }
 
@@ -58,8 +52,6 @@ blocks-spec =
     (tie.spec
     Inv-loop
     μ-loop
-    deadlines-requires
-    ceilings-requires
     loop-holds
     mul-task
     element-copy-out-task

@@ -5,16 +5,13 @@ use Rattle.admission.proofs.sums.first_overload.Statement.{statement}
 use Rattle.admission.proofs.sums.first_overload.Tie as tie
 
 abbrev Inv-loop : tie.InvT-loop
-Inv-loop t n blocks sum₀ i₀ sum i = Summed t blocks sum i
+Inv-loop t blocks n sum₀ i₀ sum i = Summed t blocks sum i
 
 abbrev μ-loop : tie.MeasureT-loop
-μ-loop t n blocks sum₀ i₀ sum i = n - i
-
-blocks-requires : tie.Need-blocks-requires Inv-loop μ-loop
-blocks-requires c κs = search needs
+μ-loop t blocks n sum₀ i₀ sum i = n - i
 
 loop-holds : tie.Need-loop-holds Inv-loop μ-loop
-loop-holds c = summed-none _ _ (c .blocks2 .ensures)
+loop-holds c = summed-none _ _ (c .pre .1)
 
 mul-task : tie.Need-mul-task Inv-loop μ-loop
 mul-task c = search needs
@@ -64,7 +61,6 @@ first-overload-spec =
     (tie.spec
     Inv-loop
     μ-loop
-    blocks-requires
     loop-holds
     mul-task
     element-copy-out-task

@@ -1,7 +1,9 @@
-use Rattle.units.specs.Folds.{over, listed}
-use mathlib.Core.Path.{sym, _∙_}
-use Rattle.state.specs.State.{empty}
-use Rattle.state.proofs.Laws.Fresh.{fresh-passed, fresh-refused}
+use mathlib.Core.Path.{_≡_}
+use mathlib.Core.Bool.{cond}
+use mathlib.Core.Logic.{⊎-elim}
+use lib.Dec.{eqb}
+use Rattle.units.specs.Clock.{tick}
+use Rattle.state.proofs.Laws.Fresh.{tick-asked, tick-zero, fresh-found}
 use borrow.Author.Needs.{needs}
 use Rattle.state.proofs.State.fresh.Statement.{statement}
 use Rattle.state.proofs.State.fresh.Tie as tie
@@ -12,17 +14,14 @@ verdict-of-requires c κs = search needs
 number-requires : tie.Need-number-requires
 number-requires c κs = search needs
 
-returns : tie.Need-returns
-unfolding empty listed over
-returns c =
-    rw (c .before .before .verdict-of .ensures)
-    (sym (fresh-passed _ _ (sym (c .before .number .ensures ∙ rw (c .before .before .verdict-of .ensures)) ∙ c .if1 .taken)))
+no-jobs-requires : tie.Need-no-jobs-requires
+no-jobs-requires c κs = search needs
 
-returns-2 : tie.Need-returns-2
-unfolding empty listed over
-returns-2 c =
-    rw (c .before .before .verdict-of .ensures)
-    (sym (fresh-refused _ _ (λ h. c .if1 .left (c .before .number .ensures ∙ rw (c .before .before .verdict-of .ensures) h))))
+returns : tie.Need-returns
+returns c =
+    let now : c .before .if1 .now ≡ cond (eqb (c .before .before .number .result) 0) (c .before .before .before .before .args .tick) (tick 0)
+    = ⊎-elim (λ w. tick-asked _ (w .0 .taken) (w .1)) (λ w. tick-zero _ (w .0 .left) (w .1)) (c .before .if1 .came) in
+    search fresh-found
 
 pub fresh-spec : {M : Type 1} → statement M
-fresh-spec = tie.close (tie.spec verdict-of-requires number-requires returns returns-2)
+fresh-spec = tie.close (tie.spec verdict-of-requires number-requires no-jobs-requires returns)
