@@ -1,17 +1,15 @@
 // What consistency asks of each job, and of the resources that they hold.
 ghost use Prim.Native.Nat.{_-_, _<_};
 ghost use mathlib.Core.Path.{_≡_};
-ghost use mathlib.Core.Bool.{cond, _&&_, _||_};
+ghost use mathlib.Core.Bool.{_&&_, _||_};
 ghost use lib.Dec.{ltb, eqb};
 ghost use lib.ListN.{length};
 ghost use Rattle.units.specs.Folds.{some};
 ghost use Rattle.state.specs.Stack.{sectionAt};
-ghost use Rattle.consistency.specs.Consistency.{notPendingFits, pendingFits, startedFits, sectionFits, heldFits, isTaken, isNone, stackFits, jobFits, unused, positionsFit};
+ghost use Rattle.consistency.specs.Consistency.{notPendingFits, pendingFits, startedFits, sectionFits, heldFits, isTaken, isNone, stackFits, jobFits, unused};
 use state::Job;
 use state::Section;
 use state::Stack;
-use state::State;
-use table::Table;
 use table::Task;
 use units::Tick;
 use units::sets;
@@ -96,16 +94,16 @@ fn job_fits(task: Task, now: Tick, job: Job) -> bool
     if task.period.0 < job.wait.0 {
         return false;
     }
+    if !job.pending {
+        return not_pending_fits(job);
+    }
     if !started_fits(job) {
         return false;
     }
     if !held_fits(task, held) {
         return false;
     }
-    if job.pending {
-        return pending_fits(task, now, job);
-    }
-    not_pending_fits(job)
+    pending_fits(task, now, job)
 }
 
 // The place is in use, or is 0.
@@ -130,29 +128,36 @@ fn stack_fits(held: Stack) -> bool
     true
 }
 
-// A place past the task count.
-fn unused(job: Job) -> bool
+fn is_unused(job: Job) -> bool
     ensures { λ r. ⌜ r ≡ unused job ⌝ }
 {
     !job.pending && (job.wait.0 == 0 && not_pending_fits(job))
 }
 
-// That a task has 8 limits is said here for the walk below.
-fn position_fits(task: Task, now: Tick, job: Job, used: bool) -> bool
-    ensures { λ r. ⌜ (r ≡ stackFits (job .held) && cond used (jobFits task (now .0) job) (unused job)) × (length (task .limits) ≡ 8) ⌝ }
+// A place past the task count.
+pub(crate) fn unused(job: Job) -> bool
+    ensures { λ r. ⌜ r ≡ stackFits (job .held) && unused job ⌝ }
+{
+    let held = job.held;
+    if !is_unused(job) {
+        return false;
+    }
+    stack_fits(held)
+}
+
+// A place in the table. That a task has 8 limits is said here for the walk.
+pub(crate) fn fits(task: Task, now: Tick, job: Job) -> bool
+    ensures { λ r. ⌜ (r ≡ stackFits (job .held) && jobFits task (now .0) job) × (length (task .limits) ≡ 8) ⌝ }
 {
     let held = job.held;
     if !stack_fits(held) {
         return false;
     }
-    if used {
-        return job_fits(task, now, job);
-    }
-    unused(job)
+    job_fits(task, now, job)
 }
 
 // A resource that is held is in the set.
-fn is_taken(set: u16, held: Stack) -> bool
+pub(crate) fn is_taken(set: u16, held: Stack) -> bool
     ensures { λ r. ⌜ r ≡ isTaken set held ⌝ }
 {
     for i in 0..Stack::PLACES {
@@ -165,26 +170,4 @@ fn is_taken(set: u16, held: Stack) -> bool
         }
     }
     false
-}
-
-// Each place fits, and no resource is held by two jobs: one walk, with the set of the resources held so far.
-// A resource that fits is one of 8, so that the set tells of each that has been met.
-pub(crate) fn positions_fit(table: Table, state: State) -> bool
-    ensures { λ r. ⌜ r ≡ positionsFit table state ⌝ }
-{
-    let mut found = 0u16;
-    for k in 0..State::TASKS {
-        let task = table.tasks[k];
-        let job = state.jobs[k];
-        let held = job.held;
-        if !position_fits(task, state.tick, job, k < table.count) {
-            return false;
-        }
-        if is_taken(found, held) {
-            return false;
-        }
-        let next = held.join(found);
-        found = next;
-    }
-    true
 }

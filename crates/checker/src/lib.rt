@@ -1,6 +1,9 @@
-// Whether a state is consistent: document 01's last paragraph of 'Numbers returned'.
+// Whether a state is consistent: document 01's last paragraph of 'Numbers returned', but for the table's own verdict. One walk over the positions tests them and gathers what the turn is made of.
 ghost use mathlib.Core.Path.{_≡_};
-ghost use Rattle.consistency.specs.Consistency.{halfFits, markFits, consistent};
+ghost use Rattle.consistency.specs.Consistency.{markFits};
+ghost use Rattle.seen.specs.Seen.{halfFitsBy, examined};
+use choice::Turn;
+use seen::Examined;
 use state::Half;
 use state::Mark;
 use state::Runner;
@@ -10,6 +13,8 @@ use units::Tick;
 
 mod jobs;
 mod middle;
+mod turns;
+mod walks;
 
 fn mark_fits(count: usize, now: Tick, mark: Mark) -> bool
     ensures { λ r. ⌜ r ≡ markFits count (now .0) mark ⌝ }
@@ -21,33 +26,42 @@ fn mark_fits(count: usize, now: Tick, mark: Mark) -> bool
     }
 }
 
-fn half_fits(table: Table, state: State, half: Half) -> bool
-    ensures { λ r. ⌜ r ≡ halfFits table state half ⌝ }
+fn half_fits(half: Half, on: Runner, old: Mark, begun: bool, turn: Turn) -> bool
+    ensures { λ r. ⌜ r ≡ halfFitsBy half on old begun turn ⌝ }
 {
-    let runner = state.runner;
     match half {
-        Half::First => middle::same_runner(Runner::Nobody, runner),
-        Half::Second => {
-            let turn = chooser::turn_of(table, state);
-            middle::unchanged(state, turn)
-        }
+        Half::First => middle::same_runner(Runner::Nobody, on),
+        Half::Second => middle::unchanged(on, old, begun, turn),
     }
 }
 
-pub fn consistent(table: Table, state: State) -> bool
-    ensures { λ r. ⌜ r ≡ consistent table state ⌝ }
+// Whether a state fits a table, and then its turn, what is held and who is due.
+pub fn examine(table: Table, state: State) -> Examined
+    ensures { λ r. ⌜ r ≡ examined table state ⌝ }
 {
-    let verdict = admission::verdict_of(table);
-    if verdict.number() != 0 {
-        return false;
-    }
-    if !jobs::positions_fit(table, state) {
-        return false;
+    let walked = walks::walk(table, state);
+    if !walked.fits {
+        return Examined::UNFIT;
     }
     let mark = state.mark;
     if !mark_fits(table.count, state.tick, mark) {
-        return false;
+        return Examined::UNFIT;
     }
+    let seen = walked.seen;
+    let mut run = seen.top;
+    if !turns::is_free(seen) {
+        run = turns::run_place(table, seen);
+    }
+    let turn = turns::turn(table, state, seen, run);
     let half = state.half;
-    half_fits(table, state, half)
+    let on = state.runner;
+    if !half_fits(half, on, mark, run == seen.started, turn) {
+        return Examined::UNFIT;
+    }
+    Examined {
+        fits: true,
+        turn,
+        held: seen.held,
+        due: seen.due,
+    }
 }

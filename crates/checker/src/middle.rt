@@ -1,10 +1,10 @@
 // Whether making the choice again would change anything.
 ghost use mathlib.Core.Path.{_≡_};
-ghost use Rattle.consistency.specs.Consistency.{sameRunner, sameMark, hasBegun, unchanged};
+ghost use mathlib.Core.Bool.{_&&_};
+ghost use Rattle.consistency.specs.Consistency.{sameRunner, sameMark};
 use choice::Turn;
 use state::Mark;
 use state::Runner;
-use state::State;
 
 pub(crate) fn same_runner(one: Runner, other: Runner) -> bool
     ensures { λ r. ⌜ r ≡ sameRunner one other ⌝ }
@@ -36,28 +36,11 @@ fn same_mark(one: Mark, other: Mark) -> bool
     }
 }
 
-fn has_begun(state: State, runner: Runner) -> bool
-    ensures { λ r. ⌜ r ≡ hasBegun state runner ⌝ }
-{
-    match runner {
-        Runner::Nobody => true,
-        Runner::Job(p) => {
-            let k = p as usize;
-            if k < State::TASKS {
-                let job = state.jobs[k];
-                return job.started;
-            }
-            false
-        }
-    }
-}
-
-pub(crate) fn unchanged(state: State, turn: Turn) -> bool
-    ensures { λ r. ⌜ r ≡ unchanged state turn ⌝ }
+// Whether the turn is the one that the state is in the middle of; `begun` tells whether its runner is started.
+pub(crate) fn unchanged(on: Runner, old: Mark, begun: bool, turn: Turn) -> bool
+    ensures { λ r. ⌜ r ≡ sameRunner (turn .runner) on && (sameMark (turn .mark) old && begun) ⌝ }
 {
     let runner = turn.runner;
     let mark = turn.mark;
-    let on = state.runner;
-    let old = state.mark;
-    same_runner(runner, on) && (same_mark(mark, old) && has_begun(state, runner))
+    same_runner(runner, on) && (same_mark(mark, old) && begun)
 }

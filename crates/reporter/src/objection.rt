@@ -2,28 +2,13 @@
 ghost use mathlib.Core.Path.{_≡_};
 ghost use mathlib.Core.Bool.{_||_};
 ghost use lib.Dec.{leb};
-ghost use Rattle.state.specs.Order.{holds, heldResources};
+ghost use Rattle.state.specs.Order.{holds};
 ghost use Rattle.report.specs.Report.{objection};
 use state::Job;
 use state::Report;
 use state::Stack;
-use state::State;
 use table::Task;
 use units::sets;
-
-// The resources that are held, one bit each.
-pub(crate) fn held(state: State) -> u16
-    ensures { λ r. ⌜ r ≡ heldResources state ⌝ }
-{
-    let mut found = 0u16;
-    for k in 0..State::TASKS {
-        let job = state.jobs[k];
-        let held = job.held;
-        let next = held.join(found);
-        found = next;
-    }
-    found
-}
 
 // It would be taken again, or be a fifth.
 fn held_or_fifth(resource: u8, own: Stack) -> bool

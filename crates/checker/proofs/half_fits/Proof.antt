@@ -1,4 +1,4 @@
-use Rattle.consistency.proofs.Laws.Found.{found-second}
+use Rattle.seen.proofs.Laws.Begun.{second-by}
 use borrow.Author.Needs.{needs}
 use Rattle.checker.proofs.half_fits.Statement.{statement}
 use Rattle.checker.proofs.half_fits.Tie as tie
@@ -12,9 +12,6 @@ same-runner-requires c κs = search needs
 enum-told-2 : tie.Need-enum-told-2
 enum-told-2 c = search needs
 
-turn-of-requires : tie.Need-turn-of-requires
-turn-of-requires c κs = search needs
-
 unchanged-requires : tie.Need-unchanged-requires
 unchanged-requires c κs = search needs
 
@@ -22,16 +19,9 @@ returns : tie.Need-returns
 returns c = search needs
 
 returns-2 : tie.Need-returns-2
-returns-2 c = search found-second
+returns-2 c = search second-by
 
 pub half-fits-spec : {M : Type 1} → statement M
 half-fits-spec =
     tie.close
-    (tie.spec
-    enum-told
-    same-runner-requires
-    enum-told-2
-    turn-of-requires
-    unchanged-requires
-    returns
-    returns-2)
+    (tie.spec enum-told same-runner-requires enum-told-2 unchanged-requires returns returns-2)

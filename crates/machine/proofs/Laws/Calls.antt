@@ -1,5 +1,5 @@
 -- What each call answers, case by case, in the order of its numbers. Assumes nothing.
-use Prim.Native.Nat.{ℕ, _*_, _^_, _≤_, _<_}
+use Prim.Native.Nat.{ℕ, _≤_, _<_}
 use mathlib.Core.Path.{_≡_, refl, sym, ap, _∙_}
 use mathlib.Core.Bool.{Bool, true, false, not, cond}
 use mathlib.Core.Logic.{_⊎_, inl, inr}
@@ -7,11 +7,7 @@ use native.Mathlib.Decide.{decLe, decLt}
 use native.Mathlib.Omega.{arith}
 use lib.ListN.{length}
 use lib.Seq.{getD-set-same, getD-set-other}
-use lib.Dec.{ltb}
-use mir.Syntax.{w64}
-use mir.Val.{Fits}
-use borrow.Author.Needs.{scaled-fits}
-use borrow.Author.Tests.{ltb-true, lt-ltb, le-ltb, lt-leb, le-leb}
+use borrow.Author.Tests.{lt-ltb, le-ltb, lt-leb, le-leb}
 use Rattle.table.specs.declared.Table.{Table}
 use Rattle.table.specs.Table.{taskAt}
 use Rattle.admission.proofs.Laws.Admitted.{admitted}
@@ -33,10 +29,6 @@ use Rattle.machine.specs.Machine.{midTick, released, releasedAt, release
 -- a consistent state has a table of at most 16 tasks
 pub few : (t : Table) (s : State) → consistent t s ≡ true → t .count ≤ 16
 few t s h = admitted t (consistent-tells t s h .passes) .count .high
-
--- where an array of sixteen has its element at p, of k bytes each
-pub small-fits : (p k : ℕ) → p < 16 → ltb (16 * k) (2 ^ 63) ≡ true → Fits w64 (p * k)
-small-fits p k l h = scaled-fits p 16 k l (ltb-true _ _ h)
 
 module _ (t : Table) (s : State) where
   pub release-9 : (p : ℕ) → consistent t s ≡ false → release t s p ≡ bare 9 s

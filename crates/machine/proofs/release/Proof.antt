@@ -1,76 +1,111 @@
-use Prim.Native.Nat.{ℕ, _<_}
-use mathlib.Core.Path.{_≡_, sym, _∙_}
-use native.Mathlib.Omega.{arith}
-use lib.ListN.{set}
-use Rattle.table.specs.declared.Table.{Table}
-use Rattle.table.specs.Table.{taskAt}
-use Rattle.state.specs.declared.Job.{Job}
-use Rattle.state.specs.declared.State.{State}
-use Rattle.state.specs.declared.Answer.{Answer}
-use Rattle.state.specs.Answers.{bare}
-use Rattle.machine.specs.Machine.{released, release}
-use Rattle.machine.proofs.Laws.Calls.{few, small-fits, Taken, taken, taken-answer, release-refused}
+use mathlib.Core.Path.{sym, _∙_}
+use Rattle.units.proofs.Laws.Tests.{told, tested}
+use Rattle.seen.proofs.Laws.Examined.{bad-table, unfit, fit}
+use Rattle.machine.proofs.Laws.Calls.{release-9, release-11, release-10}
+use Rattle.machine.proofs.Laws.Found.{found-place, found-wait, found-free}
 use borrow.Author.Needs.{needs}
 use Rattle.machine.proofs.release.Statement.{statement}
 use Rattle.machine.proofs.release.Tie as tie
 
--- with the number found
-module _ (t : Table) (s : State) (p number : ℕ) (e : number ≡ release t s p .number) where
-  refused : (number ≡ 0 → ⊥) → (a : Answer) → a ≡ bare number s → a ≡ release t s p
-  refused h a f = f ∙ rw e (sym (release-refused t s p (λ z. h (e ∙ z))))
+verdict-of-requires : tie.Need-verdict-of-requires
+verdict-of-requires c κs = search needs
 
-  module _ (z : number ≡ 0) where
-    all : Taken t s p
-    all = taken t s p (sym e ∙ z)
-
-    placed : p < 16
-    placed = omega (arith, all, few t s (all .good))
-
-    takes : (j : Job) → j ≡ released (taskAt t p) (s .tick .0)
-        → (a : Answer) → a ≡ bare 0 (record { tick = s .tick; jobs = set (s .jobs) p j; mark = s .mark; half = s .half; runner = s .runner }) → a ≡ release t s p
-    takes j f a g = g ∙ rw f (sym (taken-answer t s p all))
-
-release-number-requires : tie.Need-release-number-requires
-release-number-requires c κs = search needs
+number-requires : tie.Need-number-requires
+number-requires c κs = search needs
 
 bare-requires : tie.Need-bare-requires
 bare-requires c κs = search needs
 
 returns : tie.Need-returns
-returns c = search refused
+returns c = search (told, release-9, bad-table)
 
-mul-task : tie.Need-mul-task
-mul-task c = search (small-fits, placed)
-
-element-copy-out-task : tie.Need-element-copy-out-task
-element-copy-out-task c = search placed
-
-released-requires : tie.Need-released-requires
-released-requires c κs = search needs
-
-mul-t10 : tie.Need-mul-t10
-mul-t10 c = search (small-fits, placed)
-
-element-set-from-next : tie.Need-element-set-from-next
-element-set-from-next c = search placed
+examine-requires : tie.Need-examine-requires
+examine-requires c κs = search needs
 
 bare-requires-2 : tie.Need-bare-requires-2
 bare-requires-2 c κs = search needs
 
 returns-2 : tie.Need-returns-2
-returns-2 c = search takes
+returns-2 c = search (told, release-9, unfit)
+
+mid-tick-requires : tie.Need-mid-tick-requires
+mid-tick-requires c κs = search needs
+
+bare-requires-3 : tie.Need-bare-requires-3
+bare-requires-3 c κs = search needs
+
+returns-3 : tie.Need-returns-3
+returns-3 c = search (told, release-11, fit)
+
+bare-requires-4 : tie.Need-bare-requires-4
+bare-requires-4 c κs = search needs
+
+returns-4 : tie.Need-returns-4
+returns-4 c = search (told, release-10, fit)
+
+job-at-requires : tie.Need-job-at-requires
+job-at-requires c κs =
+    let passes = c .before .before .before .before .before .before .before in
+    found-place _ (c .if4 .left) (passes .before .before .verdict-of .ensures) (passes .before .number .ensures) (passes .if1 .left)
+
+bare-requires-5 : tie.Need-bare-requires-5
+bare-requires-5 c κs = search needs
+
+returns-5 : tie.Need-returns-5
+returns-5 c =
+    let job = c .before .before .before in
+    let there = job .before in
+    let fits = there .before .before .before .before in
+    let passes = fits .before .before .before in
+    let good = fit _ _ (fits .before .before .examine .ensures) (fits .if2 .left) (passes .before .before .verdict-of .ensures) (passes .before .number .ensures) (passes .if1 .left) in
+    let between = tested (there .before .before .before .mid-tick .ensures) (there .before .before .if3 .left) in
+    c .bare5 .ensures ∙ sym (found-wait _ _ _ good between (there .if4 .left) (job .job-at .ensures) (c .before .if5 .taken))
+
+task-at-requires : tie.Need-task-at-requires
+task-at-requires c κs = job-at-requires (c .before .before .before) κs
+
+released-requires : tie.Need-released-requires
+released-requires c κs = search needs
+
+with-job-requires : tie.Need-with-job-requires
+with-job-requires c κs = job-at-requires (c .before .before .before .before .before) κs
+
+bare-requires-6 : tie.Need-bare-requires-6
+bare-requires-6 c κs = search needs
+
+returns-6 : tie.Need-returns-6
+returns-6 c =
+    let task = c .before .before .before in
+    let job = task .before .before .before in
+    let there = job .before in
+    let fits = there .before .before .before .before in
+    let passes = fits .before .before .before in
+    let good = fit _ _ (fits .before .before .examine .ensures) (fits .if2 .left) (passes .before .before .verdict-of .ensures) (passes .before .number .ensures) (passes .if1 .left) in
+    let between = tested (there .before .before .before .mid-tick .ensures) (there .before .before .if3 .left) in
+    let next = found-free _ _ _ good between (there .if4 .left) (job .job-at .ensures) (task .before .if5 .left) (c .before .before .released .ensures) (task .task-at .ensures) in
+    c .bare6 .ensures ∙ rw (c .before .with-job .ensures) (sym next)
 
 pub release-spec : {M : Type 1} → statement M
 release-spec =
     tie.close
     (tie.spec
-    release-number-requires
+    verdict-of-requires
+    number-requires
     bare-requires
     returns
-    mul-task
-    element-copy-out-task
-    released-requires
-    mul-t10
-    element-set-from-next
+    examine-requires
     bare-requires-2
-    returns-2)
+    returns-2
+    mid-tick-requires
+    bare-requires-3
+    returns-3
+    bare-requires-4
+    returns-4
+    job-at-requires
+    bare-requires-5
+    returns-5
+    task-at-requires
+    released-requires
+    with-job-requires
+    bare-requires-6
+    returns-6)

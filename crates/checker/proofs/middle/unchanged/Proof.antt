@@ -1,4 +1,3 @@
-use Rattle.consistency.specs.Consistency.{unchanged}
 use Rattle.units.proofs.Laws.Tests.{tests}
 use borrow.Author.Needs.{needs}
 use Rattle.checker.proofs.middle.unchanged.Statement.{statement}
@@ -10,28 +9,15 @@ same-runner-requires c κs = search needs
 same-mark-requires : tie.Need-same-mark-requires
 same-mark-requires c κs = search needs
 
-has-begun-requires : tie.Need-has-begun-requires
-has-begun-requires c κs = search needs
-
 returns : tie.Need-returns
-unfolding unchanged
 returns c = search tests
 
 returns-2 : tie.Need-returns-2
-unfolding unchanged
 returns-2 c = search tests
 
 returns-3 : tie.Need-returns-3
-unfolding unchanged
 returns-3 c = search tests
 
 pub unchanged-spec : {M : Type 1} → statement M
 unchanged-spec =
-    tie.close
-    (tie.spec
-    same-runner-requires
-    same-mark-requires
-    has-begun-requires
-    returns
-    returns-2
-    returns-3)
+    tie.close (tie.spec same-runner-requires same-mark-requires returns returns-2 returns-3)

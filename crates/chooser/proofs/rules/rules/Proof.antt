@@ -1,51 +1,42 @@
 use Prim.Native.Nat.{ℕ, max, _≤_, _<_}
-use mathlib.Core.Path.{_≡_, sym, _∙_}
-use borrow.Author.Tests.{eq-eqb, le-ltb}
-use Rattle.table.specs.declared.Table.{Table}
-use Rattle.table.specs.Table.{taskAt, S}
-use Rattle.state.specs.declared.State.{State}
+use mathlib.Core.Path.{_≡_}
+use mathlib.Core.Bool.{true, cond}
+use borrow.Author.Tests.{eq-eqb, ne-eqb, lt-ltb, le-ltb}
+use Rattle.table.specs.declared.Task.{Task}
 use Rattle.state.specs.declared.Mark.{Mark}
 use Rattle.state.specs.declared.Mode.the-variants.{Synchronization}
 use Rattle.state.specs.declared.Runner.the-variants as Runs
-use Rattle.state.specs.Order.{positionOf, lastHolder}
+use Rattle.state.specs.Order.{positionOf}
 use Rattle.choice.specs.declared.Turn.{Turn}
-use Rattle.choice.specs.Choice.{top, oldMark, markAt, inherited, noHolderBehind, rules}
-use Rattle.choice.proofs.Laws.Rules.{rule-1, rule-2}
+use Rattle.choice.specs.Choice.{markPlace, markAt, noHolderBehind}
+use Rattle.seen.specs.declared.Seen.{Seen}
+use Rattle.seen.specs.Seen.{rulesBy}
 use borrow.Author.Needs.{needs}
 use Rattle.chooser.proofs.rules.rules.Statement.{statement}
 use Rattle.chooser.proofs.rules.rules.Tie as tie
 
--- with the places found, and then the new mark's
-module _ (t : Table) (s : State) (first run old last k : ℕ) (e : first ≡ top s) (o : old ≡ oldMark s) (l : last ≡ lastHolder s run) (p : k ≡ positionOf run) where
-  module _ (m : Mark) (place : ℕ) (f : m ≡ markAt (s .tick .0) place) where
-    by-rule-1 : (run ≡ first → ⊥) → (behind : ℕ) → behind ≡ max run last → place ≡ max old behind → (v : ℕ) → v ≡ inherited t s run
-        → record { runner = Runs.Job k; mark = m; mode = Synchronization; speed = v } ≡ rules t s run
-    by-rule-1 h behind g i v j = rw (j, f, i, g, p, l, o) (sym (rule-1 t s run (λ q. h (q ∙ sym e))))
+-- with the old mark's place found, and then the new mark's
+module _ (now : ℕ) (mark : Mark) (x : Seen) (run : ℕ) (task : Task) (v old k : ℕ) (o : old ≡ markPlace now mark) (p : k ≡ positionOf run) where
+  module _ (m : Mark) (place : ℕ) (f : m ≡ markAt now place) where
+    by-rule-1 : (run ≡ x .top → ⊥) → (behind : ℕ) → behind ≡ cond true (max run (x .last)) run → place ≡ cond true (max old behind) old
+        → record { runner = Runs.Job k; mark = m; mode = Synchronization; speed = v } ≡ rulesBy now mark x run task v
+    unfolding rulesBy
+    by-rule-1 h behind g i = rw (f, i, g, p, o, ne-eqb _ _ h)
 
-    by-rule-2 : run ≡ first → 0 < last → place ≡ max old last → record { runner = Runs.Job k; mark = m; mode = Synchronization; speed = S t k } ≡ rules t s run
-    by-rule-2 h some g = rw (f, g, p, l, o) (sym (rule-2 t s run (h ∙ e) (rw l at some)))
+    by-rule-2 : run ≡ x .top → run < x .last → place ≡ cond true (max old (x .last)) old
+        → record { runner = Runs.Job k; mark = m; mode = Synchronization; speed = task .synchronization } ≡ rulesBy now mark x run task v
+    unfolding rulesBy
+    by-rule-2 h l g = rw (f, g, p, o, eq-eqb _ _ h, lt-ltb _ _ l)
 
-  by-others : run ≡ first → last ≤ 0 → (u : Turn) → u ≡ noHolderBehind (s .mark) old run (taskAt t k) → u ≡ rules t s run
-  unfolding rules
-  by-others h none u g = rw (← o, ← l, ← e, eq-eqb _ _ h, le-ltb _ _ none, ← p) g
+  by-others : run ≡ x .top → x .last ≤ run → (u : Turn) → u ≡ noHolderBehind mark old run task → u ≡ rulesBy now mark x run task v
+  unfolding rulesBy
+  by-others h l u g = rw (g, o, eq-eqb _ _ h, le-ltb _ _ l)
 
 mark-place-requires : tie.Need-mark-place-requires
 mark-place-requires c κs = search needs
 
-last-holder-requires : tie.Need-last-holder-requires
-last-holder-requires c κs = search needs
-
 position-requires : tie.Need-position-requires
 position-requires c κs = search needs
-
-cast-task : tie.Need-cast-task
-cast-task c = search needs
-
-mul-task : tie.Need-mul-task
-mul-task c = search needs
-
-element-copy-out-task : tie.Need-element-copy-out-task
-element-copy-out-task c = search needs
 
 farther-requires : tie.Need-farther-requires
 farther-requires c κs = search needs
@@ -55,9 +46,6 @@ farther-requires-2 c κs = search needs
 
 mark-at-requires : tie.Need-mark-at-requires
 mark-at-requires c κs = search needs
-
-inherited-requires : tie.Need-inherited-requires
-inherited-requires c κs = search needs
 
 returns : tie.Need-returns
 returns c = search by-rule-1
@@ -82,15 +70,10 @@ rules-spec =
     tie.close
     (tie.spec
     mark-place-requires
-    last-holder-requires
     position-requires
-    cast-task
-    mul-task
-    element-copy-out-task
     farther-requires
     farther-requires-2
     mark-at-requires
-    inherited-requires
     returns
     farther-requires-3
     mark-at-requires-2
