@@ -11,6 +11,7 @@ use Rattle.state.proofs as State
 use Rattle.chooser.proofs as Chooser
 use Rattle.reporter.proofs as Reporter
 use Rattle.checker.proofs as Checker
+use Rattle.halves.proofs as Halves
 use Rattle.machine.proofs as Machine
 use Rattle.records.proofs as Records
 use Rattle.lines.proofs as Lines
@@ -48,10 +49,18 @@ pub record Singleness : Type 0 where
   pub any : Single State.Stack.any.ended State.Stack.any.Reads.Learnt
   pub holds : Single State.Stack.holds.ended State.Stack.holds.Reads.Learnt
   pub join : Single State.Stack.join.ended State.Stack.join.Reads.Learnt
-  pub turnOf : Single Chooser.turn_of.ended Chooser.turn_of.Reads.Learnt
-  pub firstHalf : Single Chooser.choose.ended Chooser.choose.Reads.Learnt
-  pub secondHalf : Single Reporter.report.ended Reporter.report.Reads.Learnt
-  pub consistent : Single Checker.consistent.ended Checker.consistent.Reads.Learnt
+  pub seenWith : Single Chooser.gather.seen_with.ended Chooser.gather.seen_with.Reads.Learnt
+  pub placePosition : Single Chooser.runner.position.ended Chooser.runner.position.Reads.Learnt
+  pub runPlace : Single Chooser.runner.run_place.ended Chooser.runner.run_place.Reads.Learnt
+  pub rules : Single Chooser.rules.rules.ended Chooser.rules.rules.Reads.Learnt
+  pub inherited : Single Chooser.speed.inherited.ended Chooser.speed.inherited.Reads.Learnt
+  pub reported : Single Reporter.reported.ended Reporter.reported.Reads.Learnt
+  pub reportedIdle : Single Reporter.reported_idle.ended Reporter.reported_idle.Reads.Learnt
+  pub runnerPosition : Single Halves.runner_position.ended Halves.runner_position.Reads.Learnt
+  pub inMidTick : Single Halves.in_mid_tick.ended Halves.in_mid_tick.Reads.Learnt
+  pub closed : Single Halves.closed.ended Halves.closed.Reads.Learnt
+  pub late : Single Halves.late.ended Halves.late.Reads.Learnt
+  pub examine : Single Checker.examine.ended Checker.examine.Reads.Learnt
   pub release : Single Machine.release.ended Machine.release.Reads.Learnt
   pub choose : Single Machine.choose.ended Machine.choose.Reads.Learnt
   pub report : Single Machine.report.ended Machine.report.Reads.Learnt
