@@ -1,4 +1,6 @@
 // The admission test: whether a table's deadlines can be kept.
+#![tactic(auto)]
+
 ghost use Rattle.std.specs.Prelude.{◌≡◌};
 ghost use Rattle.admission.specs.Admission.{verdict};
 

@@ -1,4 +1,6 @@
 // Whether a state is consistent: document 01's last paragraph of 'Numbers returned', but for the table's own verdict. One walk over the positions tests them and gathers what the turn is made of.
+#![tactic(auto)]
+
 ghost use Rattle.std.specs.Prelude.{◌≡◌};
 ghost use Rattle.consistency.specs.Consistency.{mark_fits};
 ghost use Rattle.seen.specs.Seen.{half_fits_by, examined};

@@ -1,8 +1,10 @@
 // What a choice is: who runs, in which mode, at which speed. No code: specs/ has the rules of the first half of a tick, proofs/ their laws. `chooser` follows them.
+#![tactic(auto)]
+
 use state::{Mark, Mode, Runner, State};
 
 // Who runs, the mark that stands, the mode and the speed.
-#[derive(Drop)]
+#[derive(Clone, Copy)]
 pub struct Turn {
     pub runner: Runner,
     pub mark: Mark,
@@ -10,7 +12,7 @@ pub struct Turn {
     pub speed: u8,
 }
 
-#[derive(Drop)]
+#[derive(Clone, Copy)]
 pub struct Choice {
     pub state: State,
     pub turn: Turn,

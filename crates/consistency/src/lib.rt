@@ -1,1 +1,2 @@
 // What makes a state consistent. No code: specs/ has the clauses, proofs/ their laws. `checker` tests them.
+#![tactic(auto)]

@@ -1,1 +1,2 @@
 // How firm the promises are. No code.
+#![tactic(auto)]

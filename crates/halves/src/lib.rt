@@ -1,4 +1,6 @@
 // The state after each half of a tick.
+#![tactic(auto)]
+
 ghost use Rattle.std.specs.Prelude.{◌≡◌, set};
 ghost use Rattle.choice.specs.Choice.{in_mid_tick};
 ghost use Rattle.report.specs.Report.{waited, closed};

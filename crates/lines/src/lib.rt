@@ -1,4 +1,6 @@
 // The lines of the listing, written into a lent part of the output.
+#![tactic(auto)]
+
 ghost use Rattle.std.specs.Prelude.{◌≡◌};
 ghost use Rattle.lines.specs.Lines.{text, leaves, answers};
 
@@ -8,7 +10,7 @@ use units::Tick;
 mod pieces;
 mod writers;
 
-#[derive(Drop)]
+#[derive(Clone, Copy)]
 pub enum Line {
     Table(u8),
     Release {

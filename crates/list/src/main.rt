@@ -1,4 +1,6 @@
 // Lists the record file that its argument names, or standard input without one.
+#![tactic(auto)]
+
 use libc::{STDERR_FILENO, STDIN_FILENO, STDOUT_FILENO};
 
 // Reads until the buffer is full or the input ends, and answers how many bytes came, or -1 where a read failed, which

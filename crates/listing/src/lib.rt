@@ -1,4 +1,6 @@
 // The listing of a record file.
+#![tactic(auto)]
+
 ghost use Rattle.std.specs.Prelude.{◌≡◌, ◌+◌, ◌*◌, ◌≤◌, length, take};
 ghost use Rattle.lines.specs.Lines.{laid, leaves, answers};
 ghost use Rattle.records.specs.Records.{event_count};
@@ -10,7 +12,7 @@ use table::Table;
 
 mod steps;
 
-#[derive(Drop)]
+#[derive(Clone, Copy)]
 pub struct Step {
     pub line: Line,
     pub state: State,

@@ -1,4 +1,6 @@
 // The machine's calls, for any table and any state. Each makes both tests itself: a function for the two would add its own copies of table and state to the stack.
+#![tactic(auto)]
+
 ghost use Rattle.std.specs.Prelude.{◌≡◌};
 ghost use Rattle.machine.specs.Machine.{release, choose, report};
 

@@ -1,6 +1,8 @@
 // Lists many record files in one process, for the tests: standard input is a pack, that is, for each file its length in four
 // bytes, the lowest first, and its bytes. An empty line follows each listing.
 // Three files stand in its stored run: that of the paper's whole listing, an empty one, and a setting without tasks.
+#![tactic(auto)]
+
 use libc::{STDERR_FILENO, STDIN_FILENO, STDOUT_FILENO};
 
 // A number of four bytes, the lowest first.

@@ -1,4 +1,6 @@
 // A record file, read: whether it is well-formed, and what its records say.
+#![tactic(auto)]
+
 ghost use Rattle.std.specs.Prelude.{◌≡◌};
 ghost use Rattle.records.specs.Records.{first_event, event_count, well_formed};
 ghost use Rattle.records.specs.Contents.{table, start, event};
@@ -11,7 +13,7 @@ mod bytes;
 mod contents;
 mod kinds;
 
-#[derive(Drop)]
+#[derive(Clone, Copy)]
 pub enum Event {
     Release(u8),
     Tick(Report),

@@ -1,4 +1,6 @@
 // The second half of a tick, of one task and one job: the steps, the report, the endings.
+#![tactic(auto)]
+
 ghost use Rattle.std.specs.Prelude.{◌≡◌};
 ghost use Rattle.seen.specs.Seen.{reported, reported_idle};
 

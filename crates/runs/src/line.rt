@@ -4,7 +4,7 @@ use crate::{print, word};
 use units::Steps;
 
 // The eight numbers are the last that were read, the last one last; a resource and its limit stand apart. They are fields and no array: that is proved in less time.
-#[derive(Drop)]
+#[derive(Clone, Copy)]
 pub struct Line {
     pub word: u64,
     pub said: u64,

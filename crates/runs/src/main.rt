@@ -1,4 +1,6 @@
 // Runs the machine on the commands of standard input, one to a line, and writes what it answers.
+#![tactic(auto)]
+
 use libc::STDIN_FILENO;
 use line::Line;
 use state::{Answer, Report, State};

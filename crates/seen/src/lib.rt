@@ -1,9 +1,11 @@
 // What one pass over the positions gathers, and what the calls are handed of it. No code: specs/ says what each number is, proofs/ that the rules follow from them. `chooser`, `checker`, `reporter` and `machine` work with them.
+#![tactic(auto)]
+
 use choice::Turn;
 use state::{Job, State};
 
 // The resources that are held and the positions that are due, one bit each; the places of top, of the first started job and of the last holder.
-#[derive(Drop)]
+#[derive(Clone, Copy)]
 pub struct Seen {
     pub held: u16,
     pub due: u16,
@@ -13,14 +15,14 @@ pub struct Seen {
 }
 
 // Whether each place fits, and then what was seen.
-#[derive(Drop)]
+#[derive(Clone, Copy)]
 pub struct Walked {
     pub fits: bool,
     pub seen: Seen,
 }
 
 // Whether a state fits a table, and then its turn, the resources that are held, and who is due.
-#[derive(Drop)]
+#[derive(Clone, Copy)]
 pub struct Examined {
     pub fits: bool,
     pub turn: Turn,
@@ -29,7 +31,7 @@ pub struct Examined {
 }
 
 // The number of a report, 0 where it is taken; then the job after its tick, and how it ended.
-#[derive(Drop)]
+#[derive(Clone, Copy)]
 pub struct Reported {
     pub number: u8,
     pub job: Job,

@@ -1,4 +1,6 @@
 // What the machine keeps from call to call, and what its calls are told and answer.
+#![tactic(auto)]
+
 ghost use Rattle.std.specs.Prelude.{◌≡◌};
 ghost use Rattle.units.specs.Folds.{listed};
 ghost use Rattle.state.specs.State.{no_job, fresh};
@@ -11,21 +13,21 @@ use verdict::Verdict;
 mod holders;
 
 // A resource that is held, and the steps since it was taken.
-#[derive(Drop)]
+#[derive(Clone, Copy)]
 pub struct Section {
     pub resource: u8,
     pub steps: Steps,
 }
 
 // The sections that a job is in, the outermost first: of four places those below the depth are in use.
-#[derive(Drop)]
+#[derive(Clone, Copy)]
 pub struct Stack {
     pub depth: u8,
     pub sections: [Section; 4],
 }
 
 // The job of one task. What is not in use is 0.
-#[derive(Drop)]
+#[derive(Clone, Copy)]
 pub struct Job {
     pub pending: bool,
     pub started: bool,
@@ -35,33 +37,33 @@ pub struct Job {
     pub wait: Ticks,
 }
 
-#[derive(Drop)]
+#[derive(Clone, Copy)]
 pub struct Place {
     pub deadline: Tick,
     pub position: u8,
 }
 
-#[derive(Drop)]
+#[derive(Clone, Copy)]
 pub enum Mark {
     Absent,
     At(Place),
 }
 
 // The half of a tick that comes next: the first between ticks, the second in mid-tick.
-#[derive(Drop)]
+#[derive(Clone, Copy)]
 pub enum Half {
     First,
     Second,
 }
 
 // The job on the processor.
-#[derive(Drop)]
+#[derive(Clone, Copy)]
 pub enum Runner {
     Nobody,
     Job(u8),
 }
 
-#[derive(Drop)]
+#[derive(Clone, Copy)]
 pub struct State {
     pub tick: Tick,
     pub jobs: [Job; 16],
@@ -70,14 +72,14 @@ pub struct State {
     pub runner: Runner,
 }
 
-#[derive(Drop)]
+#[derive(Clone, Copy)]
 pub enum Mode {
     Independent,
     Synchronization,
 }
 
 // What the runner's job says at the end of its tick.
-#[derive(Drop)]
+#[derive(Clone, Copy)]
 pub enum Report {
     CarryOn,
     Done,
@@ -86,7 +88,7 @@ pub enum Report {
 }
 
 // What a release, a choice or a report answers.
-#[derive(Drop)]
+#[derive(Clone, Copy)]
 pub struct Answer {
     pub number: u8,
     pub state: State,
@@ -96,7 +98,7 @@ pub struct Answer {
     pub ending: u8,
 }
 
-#[derive(Drop)]
+#[derive(Clone, Copy)]
 pub struct Start {
     pub verdict: Verdict,
     pub state: State,

@@ -1,4 +1,6 @@
 // The task table, and the ceilings of its resources.
+#![tactic(auto)]
+
 ghost use Rattle.std.specs.Prelude.{◌≡◌};
 ghost use Rattle.units.specs.Amounts.{steps};
 ghost use Rattle.table.specs.Table.{limit};
@@ -7,7 +9,7 @@ use units::{Steps, Ticks};
 
 mod ceilings;
 
-#[derive(Drop)]
+#[derive(Clone, Copy)]
 pub struct Task {
     pub period: Ticks,
     pub deadline: Ticks,
@@ -31,7 +33,7 @@ impl Task {
 }
 
 // Entries past the count are not read.
-#[derive(Drop)]
+#[derive(Clone, Copy)]
 pub struct Table {
     pub full: u8,
     pub round: u32,

@@ -1,4 +1,6 @@
 // Ticks and steps, the tick counter, and sets of positions.
+#![tactic(auto)]
+
 ghost use Rattle.std.specs.Prelude.{◌≡◌};
 ghost use Rattle.units.specs.Amounts.{ticks, steps, given, up};
 
@@ -6,15 +8,15 @@ mod clock;
 pub mod sets;
 
 // How many ticks. A tick count is never added to a step count.
-#[derive(Drop)]
+#[derive(Clone, Copy)]
 pub struct Ticks(pub u16);
 
 // A value of the tick counter: now, or a deadline.
-#[derive(Drop)]
+#[derive(Clone, Copy)]
 pub struct Tick(pub u32);
 
 // How many steps of work.
-#[derive(Drop)]
+#[derive(Clone, Copy)]
 pub struct Steps(pub u16);
 
 impl Steps {

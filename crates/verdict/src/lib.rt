@@ -1,9 +1,11 @@
 // The answer about a table.
+#![tactic(auto)]
+
 ghost use Rattle.std.specs.Prelude.{◌≡◌};
 ghost use Rattle.verdict.specs.Verdict.{answer};
 
 // What the admission test finds, with the position where one is concerned.
-#[derive(Drop)]
+#[derive(Clone, Copy)]
 pub enum Verdict {
     Passed,
     Count,
