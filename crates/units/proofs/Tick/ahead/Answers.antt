@@ -1,4 +1,4 @@
-use Rattle.std.proofs.Common.{ap, rules}
+use Rattle.std.proofs.Common.{ap}
 use Rattle.units.specs.Clock.{tick, after}
 use Rattle.units.proofs.Tick.ahead.Goals as goal
 

@@ -1,4 +1,4 @@
-use Rattle.std.proofs.Common.{ℕ, ◌/◌, ◌^◌, eqb, sym, ap, arith, rules}
+use Rattle.std.proofs.Common.{ℕ, ◌/◌, ◌^◌, eqb, sym, ap, arith}
 use lib.Bits.{and_mask}
 use Rattle.units.specs.Sets.{has}
 use Rattle.units.proofs.Laws.Sets.{has_past}

@@ -1,4 +1,4 @@
-use Rattle.std.proofs.Common.{arith, rules}
+use Rattle.std.proofs.Common.{arith}
 use Rattle.units.proofs.Laws.Sets.{with-or, with_past}
 use Rattle.units.proofs.sets.with.Goals as goal
 
