@@ -20,7 +20,7 @@ use Rattle.consistency.specs.Consistency.{positions_fit, mark_fits, half_fits}
 use Rattle.seen.specs.declared.Seen.{Seen}
 use Rattle.seen.specs.declared.Walked.{Walked}
 use Rattle.seen.specs.declared.Examined.{Examined}
-use Rattle.seen.specs.Seen.{due, seen, nothing_seen, walked, is_free, run_by, half_fits_by, fits, examined}
+use Rattle.seen.specs.Seen.{seen, nothing_seen, walked, is_free, run_by, half_fits_by, fits, examined}
 use Rattle.seen.proofs.Laws.Runner.{runner_free_top, runner-by}
 use Rattle.seen.proofs.Laws.Begun.{half-by}
 use Rattle.checker.proofs.Laws.Limits.{eight}

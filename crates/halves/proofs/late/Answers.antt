@@ -5,9 +5,7 @@ use lib.Dec.{eqb}
 use borrow.Author.Tests.{eq-eqb, ne_eqb}
 use Rattle.units.specs.Sets.{with}
 use Rattle.seen.specs.Seen.{late_by}
-use borrow.Author.Rules.{rules}
-use Rattle.halves.proofs.late.Statement.{statement}
-use Rattle.halves.proofs.late.Tie as tie
+use Rattle.halves.proofs.late.Goals as goal
 
 module _ (due p : ℕ) (ended : Bool) where
   nobody : due ≡ 0 → ended ≡ true → not (eqb due 0) ≡ late_by due p ended
@@ -22,17 +20,11 @@ module _ (due p : ℕ) (ended : Bool) where
   unfolding late_by
   all e = rw e
 
-with-requires : tie.Need-with-requires
-with-requires c κs = search rules
+pub returns-then-due-ne0 : goal.returns-then-due-ne0
+returns-then-due-ne0 c = search others
 
-returns : tie.Need-returns
-returns c = search others
+pub returns-else-due-ne0 : goal.returns-else-due-ne0
+returns-else-due-ne0 c = search nobody
 
-returns-2 : tie.Need-returns-2
-returns-2 c = search nobody
-
-returns-3 : tie.Need-returns-3
-returns-3 c = search all
-
-pub late-spec : {M : Type 1} → statement M
-late-spec = tie.close (tie.spec with-requires returns returns-2 returns-3)
+pub returns : goal.returns
+returns c = search all

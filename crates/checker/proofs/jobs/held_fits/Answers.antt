@@ -1,4 +1,4 @@
-use Prim.Native.Nat.{ℕ, ◌+◌, ◌-◌, ◌≤◌, ◌<◌}
+use Prim.Native.Nat.{ℕ, ◌+◌, ◌≤◌, ◌<◌}
 use mathlib.Core.Path.{◌≡◌, sym, ap, ◌∙◌}
 use mathlib.Core.Bool.{Bool, true, false, not, ◌||◌}
 use native.Mathlib.Decide.{dec_lt}
@@ -12,14 +12,8 @@ use Rattle.units.proofs.Laws.Tests.{passed, failed, or_rest}
 use Rattle.table.specs.declared.Task.{Task}
 use Rattle.state.specs.declared.Stack.{Stack}
 use Rattle.consistency.specs.Consistency.{section_fits, held_fits}
-use borrow.Author.Rules.{rules}
-use Rattle.checker.proofs.jobs.held_fits.Statement.{statement}
-use Rattle.checker.proofs.jobs.held_fits.Tie as tie
-
--- the sections below i fit
-record Fit (task : Task) (h : Stack) (i : ℕ) : Type 0 where
-  within : i ≤ 4
-  fit : (k : ℕ) → k < i → section_fits task h k ≡ true
+use Rattle.checker.proofs.jobs.held_fits.Invariants.{Fit}
+use Rattle.checker.proofs.jobs.held_fits.Goals as goal
 
 module _ (task : Task) (h : Stack) (i : ℕ) where
   module _ {b : Bool} (e : b ≡ section_fits task h i) where
@@ -45,51 +39,17 @@ module _ (task : Task) (h : Stack) (i : ℕ) where
   full : 4 ≤ i → Fit task h i → true ≡ held_fits task h
   full d = fits (λ k b l. omega arith)
 
-abbrev invariant-loop : tie.invariant-loop
-invariant-loop task held i₀ i = Fit task held i
+pub loop-i-init : goal.loop-i-init
+loop-i-init c = record { within = omega arith; fit = λ k l. absurd (not-suc-le-zero l) }
 
-abbrev decreases-loop : tie.decreases-loop
-decreases-loop task held i₀ i = 4 - i
+pub returns-then-held-i : goal.returns-then-held-i
+returns-then-held-i c = search past-depth
 
-loop-holds : tie.Need-loop-init invariant-loop decreases-loop
-loop-holds c = record { within = omega arith; fit = λ k l. absurd (not-suc-le-zero l) }
+pub returns-then-not-section_fits : goal.returns-then-not-section_fits
+returns-then-not-section_fits c = search unfit
 
-cast-if1 : tie.Need-overflow-cast-if1 invariant-loop decreases-loop
-cast-if1 c = search rules
+pub loop-i-preserved : goal.loop-i-preserved
+loop-i-preserved c = search next
 
-returns : tie.Need-returns invariant-loop decreases-loop
-returns c = search past-depth
-
-section-fits-requires : tie.Need-section-fits-requires invariant-loop decreases-loop
-section-fits-requires c κs = search rules
-
-returns-2 : tie.Need-returns-2 invariant-loop decreases-loop
-returns-2 c = search unfit
-
-add-i : tie.Need-overflow-add-i invariant-loop decreases-loop
-add-i c = search rules
-
-loop-less : tie.Need-loop-smaller invariant-loop decreases-loop
-loop-less c = search rules
-
-loop-again : tie.Need-loop-preserved invariant-loop decreases-loop
-loop-again c = search next
-
-returns-3 : tie.Need-returns-3 invariant-loop decreases-loop
-returns-3 c = search full
-
-pub held-fits-spec : {M : Type 1} → statement M
-held-fits-spec =
-    tie.close
-    (tie.spec
-    invariant-loop
-    decreases-loop
-    loop-holds
-    cast-if1
-    returns
-    section-fits-requires
-    returns-2
-    add-i
-    loop-less
-    loop-again
-    returns-3)
+pub returns : goal.returns
+returns c = search full

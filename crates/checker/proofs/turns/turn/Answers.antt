@@ -1,7 +1,6 @@
 use Prim.Native.Nat.{ℕ, ◌≤◌, ◌<◌}
 use mathlib.Core.Path.{◌≡◌, sym, ap, ◌∙◌}
 use mathlib.Core.Bool.{true}
-use mathlib.Core.Logic.{⊎_elim}
 use Rattle.table.specs.declared.Task.{Task}
 use Rattle.table.specs.declared.Table.{Table}
 use Rattle.table.specs.Table.{task_at}
@@ -14,9 +13,8 @@ use Rattle.consistency.specs.Consistency.{positions_fit}
 use Rattle.seen.specs.declared.Seen.{Seen}
 use Rattle.seen.specs.Seen.{seen, inherited_by, rules_by}
 use Rattle.seen.proofs.Laws.Rules.{inherited-by, turn_by}
-use borrow.Author.Rules.{rules}
-use Rattle.checker.proofs.turns.turn.Statement.{statement}
-use Rattle.checker.proofs.turns.turn.Tie as tie
+use Rattle.checker.proofs.turns.turn.Goals as goal
+use Rattle.checker.proofs.turns.turn.Goals.{then-run-found, else-run-found}
 
 module _ (t : Table) (s : State) {x : Seen} (e : x ≡ seen s) where
   idles : no_place ≤ x.top → idle ≡ turn t s
@@ -40,31 +38,11 @@ module _ (t : Table) (s : State) {x : Seen} (e : x ≡ seen s) where
       unfolding seen
       first i = by (λ q. absurd (q (i ∙ ap (λ (x : Seen). x.top) e)))
 
-returns : tie.Need-returns
-returns c = search idles
+pub returns-then-found-ge-NO_PLACE : goal.returns-then-found-ge-NO_PLACE
+returns-then-found-ge-NO_PLACE c = search idles
 
-position-requires : tie.Need-position-requires
-position-requires c κs = search rules
+pub task_at-task-requires : goal.task_at-task-requires
+task_at-task-requires c = search placed
 
-task-at-requires : tie.Need-task-at-requires
-task-at-requires c κs = search placed
-
-inherited-requires : tie.Need-inherited-requires
-inherited-requires c κs = search rules
-
-rules-requires : tie.Need-rules-requires
-rules-requires c κs = search rules
-
-returns-2 : tie.Need-returns-2
-returns-2 c = ⊎_elim (λ w. search behind) (λ w. search first) c.before.if2.branch
-
-pub turn_spec : {M : Type 1} → statement M
-turn_spec =
-    tie.close
-    (tie.spec
-    returns
-    position-requires
-    task-at-requires
-    inherited-requires
-    rules-requires
-    returns-2)
+pub returns : goal.returns
+returns c = elim c.if-run-found.branch [ then-run-found w ↦ search behind | else-run-found w ↦ search first ]
