@@ -12,9 +12,7 @@ use Rattle.state.specs.declared.Runner.TheVariants as Runs
 use Rattle.state.specs.State.{job_at}
 use Rattle.seen.specs.declared.Reported.{Reported}
 use Rattle.seen.specs.Seen.{runner_position, reported, reported_idle, reported_by}
-use borrow.Author.Rules.{rules}
-use Rattle.machine.proofs.parts.reported.Statement.{statement}
-use Rattle.machine.proofs.parts.reported.Tie as tie
+use Rattle.machine.proofs.parts.reported.Goals as goal
 
 -- by the runner's position
 module _ (t : Table) (s : State) (held v p : ℕ) (said : Report) {x : Reported} where
@@ -26,35 +24,8 @@ module _ (t : Table) (s : State) (held v p : ℕ) (said : Report) {x : Reported}
   idles Runs.Nobody f e l h = f
   idles (Runs.Job q) f e l h = absurd (omega (arith, h q refl))
 
-runner-position-requires : tie.Need-runner-position-requires
-runner-position-requires c κs = search rules
+pub returns-then-p-lt-TASKS : goal.returns-then-p-lt-TASKS
+returns-then-p-lt-TASKS c = search runs
 
-task-at-requires : tie.Need-task-at-requires
-task-at-requires c κs = search rules
-
-job-at-requires : tie.Need-job-at-requires
-job-at-requires c κs = search rules
-
-reported-requires : tie.Need-reported-requires
-reported-requires c κs = search rules
-
-returns : tie.Need-returns
-returns c = search runs
-
-reported-idle-requires : tie.Need-reported-idle-requires
-reported-idle-requires c κs = search rules
-
-returns-2 : tie.Need-returns-2
-returns-2 c = search idles
-
-pub reported-spec : {M : Type 1} → statement M
-reported-spec =
-    tie.close
-    (tie.spec
-    runner-position-requires
-    task-at-requires
-    job-at-requires
-    reported-requires
-    returns
-    reported-idle-requires
-    returns-2)
+pub returns : goal.returns
+returns c = search idles

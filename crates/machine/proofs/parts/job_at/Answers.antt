@@ -10,21 +10,11 @@ use Rattle.state.specs.declared.State.{State}
 use Rattle.state.specs.State.{no_job, job_at}
 use Rattle.state.proofs.Laws.Past.{past_job, read_at}
 use borrow.Author.Rules.{rules}
-use Rattle.machine.proofs.parts.job_at.Statement.{statement}
-use Rattle.machine.proofs.parts.job_at.Tie as tie
+use Rattle.machine.proofs.parts.job_at.Goals as goal
 
 -- below the end of the list code reads what the rules read
 read-within : (s : State) (k : ℕ) → k < 16 → length s.jobs ≡ 16 → read_at s k ≡ job_at s k
 read-within s k l h = sym (get_or-set_same s.jobs k (read_at s k) no_job (omega arith)) ∙ ap (λ (m : List Job). get_or m k no_job) (set-get_or s.jobs k past_job)
 
-mul-result : tie.Need-overflow-mul-result
-mul-result c = search rules
-
-element-copy-out-result : tie.Need-element-copy-out-result
-element-copy-out-result c = search rules
-
-returns : tie.Need-returns
+pub returns : goal.returns
 returns c = search (rules, long, read-within)
-
-pub job-at-spec : {M : Type 1} → statement M
-job-at-spec = tie.close (tie.spec mul-result element-copy-out-result returns)
