@@ -5,7 +5,6 @@ use Rattle.table.specs.{declared.Task.Task, declared.Table.Table}
 use Rattle.state.specs.declared.Report.{Report}
 use Rattle.state.specs.declared.Report.TheVariants.{CarryOn, Done, Take, Give}
 use Rattle.records.specs.declared.Event.{Event}
-use Rattle.records.specs.declared.Event.TheVariants as Event
 use Rattle.records.specs.Bytes.{record_at, byte, word, long}
 use Rattle.records.specs.Records.{task_count}
 
