@@ -7,7 +7,6 @@ use Rattle.admission.specs.Admission.{verdict}
 use Rattle.state.specs.{declared.State.State, declared.Answer.Answer, State.fresh}
 use Rattle.machine.specs.Machine as Machine
 use Rattle.records.specs.{declared.Event.Event, Records.first_event, Records.event_count, Records.well_formed, Contents.table, Contents.start, Contents.event}
-use Rattle.records.specs.declared.Event.TheVariants as Event
 use Rattle.lines.specs.declared.Line.TheVariants as Line
 use Rattle.lines.specs.Lines.{text}
 use Rattle.listing.specs.declared.Step.{Step}
