@@ -15,12 +15,6 @@ use Rattle.promise.proofs.History.Tells.{line}
 
 module _ {m n : Machine} {t : Table} {now : ℕ} {s : State} {h : List Line} (k : Kept m t now s h) (e : (call : Call) → answered n t s call ≡ answered m t s call)
     (f : answered n t (answered m t s choose).state (report CarryOn) ≡ answered m t (answered m t s choose).state (report CarryOn)) where
-  goes_on : ((answered m t s (report CarryOn)).number ≡ 0) ⊎ (((answered m t s choose).number ≡ 0) × ((answered m t (answered m t s choose).state (report CarryOn)).number ≡ 0))
-      → ((answered n t s (report CarryOn)).number ≡ 0) ⊎ (((answered n t s choose).number ≡ 0) × ((answered n t (answered n t s choose).state (report CarryOn)).number ≡ 0))
-  goes_on (inl z) = inl (ap (λ (a : Answer). a.number) (e (report CarryOn)) ∙ z)
-  goes_on (inr z) =
-      inr (ap (λ (a : Answer). a.number) (e choose) ∙ z.0, ap (λ (a : Answer). (answered n t a.state (report CarryOn)).number) (e choose) ∙ ap (λ (a : Answer). a.number) f ∙ z.1)
-
   pub kept_alike : Kept n t now s h
   kept_alike = record {
     in_time = k.in_time;
@@ -47,3 +41,9 @@ module _ {m n : Machine} {t : Table} {now : ℕ} {s : State} {h : List Line} (k 
     its_half = k.its_half;
     its_runner = k.its_runner;
   }
+    where
+      goes_on : ((answered m t s (report CarryOn)).number ≡ 0) ⊎ (((answered m t s choose).number ≡ 0) × ((answered m t (answered m t s choose).state (report CarryOn)).number ≡ 0))
+          → ((answered n t s (report CarryOn)).number ≡ 0) ⊎ (((answered n t s choose).number ≡ 0) × ((answered n t (answered n t s choose).state (report CarryOn)).number ≡ 0))
+      goes_on (inl z) = inl (ap (λ (a : Answer). a.number) (e (report CarryOn)) ∙ z)
+      goes_on (inr z) =
+          inr (ap (λ (a : Answer). a.number) (e choose) ∙ z.0, ap (λ (a : Answer). (answered n t a.state (report CarryOn)).number) (e choose) ∙ ap (λ (a : Answer). a.number) f ∙ z.1)
