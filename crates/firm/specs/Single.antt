@@ -3,19 +3,19 @@ use Rattle.std.specs.Prelude.{◌≡◌}
 use contract.Lifetimes.{Lfts}
 use denote.Triple.Entry.{Args, Res}
 use denote.Triple.Clauses.{Ended, Lasts, AtExit, at_exit}
-use Rattle.units.proofs as Units
-use Rattle.verdict.proofs as Verdict
-use Rattle.table.proofs as Table
-use Rattle.admission.proofs as Admission
-use Rattle.state.proofs as State
-use Rattle.chooser.proofs as Chooser
-use Rattle.reporter.proofs as Reporter
-use Rattle.checker.proofs as Checker
-use Rattle.halves.proofs as Halves
-use Rattle.machine.proofs as Machine
-use Rattle.records.proofs as Records
-use Rattle.lines.proofs as Lines
-use Rattle.listing.proofs as Listing
+use Rattle.units as Units
+use Rattle.verdict as Verdict
+use Rattle.table as Table
+use Rattle.admission as Admission
+use Rattle.state as State
+use Rattle.chooser as Chooser
+use Rattle.reporter as Reporter
+use Rattle.checker as Checker
+use Rattle.halves as Halves
+use Rattle.machine as Machine
+use Rattle.records as Records
+use Rattle.lines as Lines
+use Rattle.listing as Listing
 
 -- A function's promise: what its contract says of the arguments, the result, and the parameters at exit.
 abbrev pub Promised : Ended → Type 1
@@ -30,45 +30,45 @@ Single T P =
 
 -- Every public function; `Learnt` is its contract, as the prover reads it and as its callers are handed it.
 pub record Singleness : Type 0 where
-  pub given : Single Units.Steps.given.ended Units.Steps.given.Reads.Learnt
-  pub up : Single Units.Steps.up.ended Units.Steps.up.Reads.Learnt
-  pub ahead : Single Units.Tick.ahead.ended Units.Tick.ahead.Reads.Learnt
-  pub after : Single Units.Tick.after.ended Units.Tick.after.Reads.Learnt
-  pub distance : Single Units.Tick.distance.ended Units.Tick.distance.Reads.Learnt
-  pub has : Single Units.sets.has.ended Units.sets.has.Reads.Learnt
-  pub with : Single Units.sets.with.ended Units.sets.with.Reads.Learnt
-  pub how_many : Single Units.sets.how_many.ended Units.sets.how_many.Reads.Learnt
-  pub lowest : Single Units.sets.lowest.ended Units.sets.lowest.Reads.Learnt
-  pub limit : Single Table.Task.limit.ended Table.Task.limit.Reads.Learnt
-  pub ceilings : Single Table.Table.ceilings.ended Table.Table.ceilings.Reads.Learnt
-  pub verdict_of : Single Admission.verdict_of.ended Admission.verdict_of.Reads.Learnt
-  pub number : Single Verdict.Verdict.number.ended Verdict.Verdict.number.Reads.Learnt
-  pub position : Single Verdict.Verdict.position.ended Verdict.Verdict.position.Reads.Learnt
-  pub fresh : Single State.State.fresh.ended State.State.fresh.Reads.Learnt
-  pub bare : Single State.Answer.bare.ended State.Answer.bare.Reads.Learnt
-  pub any : Single State.Stack.any.ended State.Stack.any.Reads.Learnt
-  pub holds : Single State.Stack.holds.ended State.Stack.holds.Reads.Learnt
-  pub join : Single State.Stack.join.ended State.Stack.join.Reads.Learnt
-  pub seen_with : Single Chooser.gather.seen_with.ended Chooser.gather.seen_with.Reads.Learnt
-  pub place_position : Single Chooser.runner.position.ended Chooser.runner.position.Reads.Learnt
-  pub run_place : Single Chooser.runner.run_place.ended Chooser.runner.run_place.Reads.Learnt
-  pub rules : Single Chooser.rules.rules.ended Chooser.rules.rules.Reads.Learnt
-  pub inherited : Single Chooser.speed.inherited.ended Chooser.speed.inherited.Reads.Learnt
-  pub reported : Single Reporter.reported.ended Reporter.reported.Reads.Learnt
-  pub reported_idle : Single Reporter.reported_idle.ended Reporter.reported_idle.Reads.Learnt
-  pub runner_position : Single Halves.runner_position.ended Halves.runner_position.Reads.Learnt
-  pub in_mid_tick : Single Halves.in_mid_tick.ended Halves.in_mid_tick.Reads.Learnt
-  pub closed : Single Halves.closed.ended Halves.closed.Reads.Learnt
-  pub late : Single Halves.late.ended Halves.late.Reads.Learnt
-  pub examine : Single Checker.examine.ended Checker.examine.Reads.Learnt
-  pub release : Single Machine.release.ended Machine.release.Reads.Learnt
-  pub choose : Single Machine.choose.ended Machine.choose.Reads.Learnt
-  pub report : Single Machine.report.ended Machine.report.Reads.Learnt
-  pub first_event : Single Records.first_event.ended Records.first_event.Reads.Learnt
-  pub event_count : Single Records.event_count.ended Records.event_count.Reads.Learnt
-  pub well_formed : Single Records.well_formed.ended Records.well_formed.Reads.Learnt
-  pub table : Single Records.table.ended Records.table.Reads.Learnt
-  pub start : Single Records.start.ended Records.start.Reads.Learnt
-  pub event_at : Single Records.event_at.ended Records.event_at.Reads.Learnt
-  pub write : Single Lines.Line.write.ended Lines.Line.write.Reads.Learnt
-  pub list : Single Listing.list.ended Listing.list.Reads.Learnt
+  pub given : Single Units.specs.contracts.Steps.given.ended Units.proofs.Steps.given.Reads.Learnt
+  pub up : Single Units.specs.contracts.Steps.up.ended Units.proofs.Steps.up.Reads.Learnt
+  pub ahead : Single Units.specs.contracts.Tick.ahead.ended Units.proofs.Tick.ahead.Reads.Learnt
+  pub after : Single Units.specs.contracts.Tick.after.ended Units.proofs.Tick.after.Reads.Learnt
+  pub distance : Single Units.specs.contracts.Tick.distance.ended Units.proofs.Tick.distance.Reads.Learnt
+  pub has : Single Units.specs.contracts.sets.has.ended Units.proofs.sets.has.Reads.Learnt
+  pub with : Single Units.specs.contracts.sets.with.ended Units.proofs.sets.with.Reads.Learnt
+  pub how_many : Single Units.specs.contracts.sets.how_many.ended Units.proofs.sets.how_many.Reads.Learnt
+  pub lowest : Single Units.specs.contracts.sets.lowest.ended Units.proofs.sets.lowest.Reads.Learnt
+  pub limit : Single Table.specs.contracts.Task.limit.ended Table.proofs.Task.limit.Reads.Learnt
+  pub ceilings : Single Table.specs.contracts.Table.ceilings.ended Table.proofs.Table.ceilings.Reads.Learnt
+  pub verdict_of : Single Admission.specs.contracts.verdict_of.ended Admission.proofs.verdict_of.Reads.Learnt
+  pub number : Single Verdict.specs.contracts.Verdict.number.ended Verdict.proofs.Verdict.number.Reads.Learnt
+  pub position : Single Verdict.specs.contracts.Verdict.position.ended Verdict.proofs.Verdict.position.Reads.Learnt
+  pub fresh : Single State.specs.contracts.State.fresh.ended State.proofs.State.fresh.Reads.Learnt
+  pub bare : Single State.specs.contracts.Answer.bare.ended State.proofs.Answer.bare.Reads.Learnt
+  pub any : Single State.specs.contracts.Stack.any.ended State.proofs.Stack.any.Reads.Learnt
+  pub holds : Single State.specs.contracts.Stack.holds.ended State.proofs.Stack.holds.Reads.Learnt
+  pub join : Single State.specs.contracts.Stack.join.ended State.proofs.Stack.join.Reads.Learnt
+  pub seen_with : Single Chooser.specs.contracts.gather.seen_with.ended Chooser.proofs.gather.seen_with.Reads.Learnt
+  pub place_position : Single Chooser.specs.contracts.runner.position.ended Chooser.proofs.runner.position.Reads.Learnt
+  pub run_place : Single Chooser.specs.contracts.runner.run_place.ended Chooser.proofs.runner.run_place.Reads.Learnt
+  pub rules : Single Chooser.specs.contracts.rules.rules.ended Chooser.proofs.rules.rules.Reads.Learnt
+  pub inherited : Single Chooser.specs.contracts.speed.inherited.ended Chooser.proofs.speed.inherited.Reads.Learnt
+  pub reported : Single Reporter.specs.contracts.reported.ended Reporter.proofs.reported.Reads.Learnt
+  pub reported_idle : Single Reporter.specs.contracts.reported_idle.ended Reporter.proofs.reported_idle.Reads.Learnt
+  pub runner_position : Single Halves.specs.contracts.runner_position.ended Halves.proofs.runner_position.Reads.Learnt
+  pub in_mid_tick : Single Halves.specs.contracts.in_mid_tick.ended Halves.proofs.in_mid_tick.Reads.Learnt
+  pub closed : Single Halves.specs.contracts.closed.ended Halves.proofs.closed.Reads.Learnt
+  pub late : Single Halves.specs.contracts.late.ended Halves.proofs.late.Reads.Learnt
+  pub examine : Single Checker.specs.contracts.examine.ended Checker.proofs.examine.Reads.Learnt
+  pub release : Single Machine.specs.contracts.release.ended Machine.proofs.release.Reads.Learnt
+  pub choose : Single Machine.specs.contracts.choose.ended Machine.proofs.choose.Reads.Learnt
+  pub report : Single Machine.specs.contracts.report.ended Machine.proofs.report.Reads.Learnt
+  pub first_event : Single Records.specs.contracts.first_event.ended Records.proofs.first_event.Reads.Learnt
+  pub event_count : Single Records.specs.contracts.event_count.ended Records.proofs.event_count.Reads.Learnt
+  pub well_formed : Single Records.specs.contracts.well_formed.ended Records.proofs.well_formed.Reads.Learnt
+  pub table : Single Records.specs.contracts.table.ended Records.proofs.table.Reads.Learnt
+  pub start : Single Records.specs.contracts.start.ended Records.proofs.start.Reads.Learnt
+  pub event_at : Single Records.specs.contracts.event_at.ended Records.proofs.event_at.Reads.Learnt
+  pub write : Single Lines.specs.contracts.Line.write.ended Lines.proofs.Line.write.Reads.Learnt
+  pub list : Single Listing.specs.contracts.list.ended Listing.proofs.list.Reads.Learnt
