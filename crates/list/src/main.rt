@@ -1,91 +1,128 @@
 // Lists the record file that its argument names, or standard input without one.
 #![tactic(auto)]
 
-use libc::{STDERR_FILENO, STDIN_FILENO, STDOUT_FILENO};
+ghost use Rattle.std.specs.Io.{ReadsAtMost};
 
-// Reads until the buffer is full or the input ends, and answers how many bytes came, or -1 where a read failed, which
-// io::read_full does not tell from the end. A read that does not end the input moves a byte, so that a turn for each byte is
+use std::env::FillError;
+use std::io::{Read, Write};
+use std::rt::{Env, Files};
+use std::{fs, io};
+
+// The system's numbers for an argument that there is not, and for one that is too long.
+const INVALID: i32 = 22;
+
+const TOO_LONG: i32 = 36;
+
+// Reads until the buffer is full or the input ends, and answers how many bytes came, or the error where a read failed. read_exact
+// does not tell how many came before the end. A read that does not end the input moves a byte, so that a turn for each byte is
 // enough.
-fn read(fd: i32, buffer: &mut [u8]) -> isize {
+fn read(input: &mut impl Read, buffer: &mut [u8]) -> io::Result<usize>
+    ensures { ReadsAtMost result buffer.new }
+{
     let mut end = 0;
     for _turn in 0..buffer.len() {
-        let got = libc::read(fd, &mut buffer[end..]);
-        if got < 0 {
-            return -1;
-        }
-        let more = io::count(got, &buffer[end..]);
+        let more = input.read(&mut buffer[end..])?;
         if more == 0 {
-            return end as isize;
+            return Ok(end);
         }
         end += more;
     }
-    end as isize
+    Ok(end)
+}
+
+// Writes a line to standard error: what failed, as the caller names it, a colon and the system's words for why, without the
+// number that std writes after them.
+fn fail(rt: &impl Eprint, what: &str, error: io::Error) {
+    let mut room = [0u8; 300];
+    let mut rest: &mut [u8] = &mut room;
+    let _ = write!(rest, "{error}");
+    let end = 300usize.saturating_sub(rest.len());
+    let text = str::from_utf8(&room[..end]).unwrap_or("");
+    let words = text
+        .split_once(" (os error ")
+        .map_or(text, |(words, _)| words);
+    let _ = eprintln!(rt; "{what}: {words}");
 }
 
 // Names the task that a table's number is about, on standard error, since the listing has the number alone.
-fn name_position(file: &[u8]) {
+fn name_position(rt: &impl Eprint, file: &[u8]) {
     let verdict = admission::verdict_of(records::table(file));
     let names_a_task = match verdict.number() {
         4 | 5 | 6 | 8 => true,
         _ => false,
     };
     if names_a_task && records::well_formed(file) {
-        io::write_all(STDERR_FILENO, b"list: the number is that of position ");
-        io::print_decimal(STDERR_FILENO, verdict.position() as u64);
-        io::write_all(STDERR_FILENO, b", counted from 0\n");
+        let position = verdict.position();
+        let _ = eprintln!(rt; "list: the number is that of position {position}, counted from 0");
     }
 }
 
-fn print_listing(file: &[u8]) {
+fn print_listing(rt: &(impl Print + Eprint), file: &[u8]) {
     let mut out = [0u8; listing::ROOM];
     let end = listing::list(file, &mut out);
-    if !io::write_all(STDOUT_FILENO, &out[..end]) {
-        os::fail(b"standard output");
+    if let Err(error) = rt.write_all(&out[..end]) {
+        fail(rt, "standard output", error);
     }
 }
 
 // Lists what stands in an open file, or says why it can't be read. One byte more than a file may have is read, so that a file
 // that is too long is seen to be.
-fn list(fd: i32, name: &[u8]) {
+fn list(rt: &(impl Print + Eprint), input: &mut impl Read, name: &str) {
     let mut space = [0u8; 65537];
-    let got = read(fd, &mut space);
-    if got < 0 {
-        os::fail(name);
-        return;
+    match read(input, &mut space) {
+        Ok(end) => {
+            let file = &space[..end];
+            print_listing(rt, file);
+            name_position(rt, file);
+        }
+        Err(error) => fail(rt, name, error),
     }
-    let file = &space[..io::count(got, &space)];
-    print_listing(file);
-    name_position(file);
 }
 
-fn list_named() {
-    let mut path = io::buffer();
-    let length = os::arg(1, &mut path);
-    if os::errno() != 0 {
-        os::fail(b"the file's name");
+// A name that is not UTF-8 is refused, since the names that std opens are text.
+fn list_named(rt: &(impl Env + Files + Print + Eprint)) {
+    let mut path = [0u8; 4096];
+    let length = match rt.arg(1, &mut path) {
+        Ok(length) => length,
+        Err(why) => {
+            let number = match why {
+                FillError::NotPresent => INVALID,
+                FillError::TooLong => TOO_LONG,
+            };
+            fail(rt, "the file's name", io::Error::from_raw_os_error(number));
+            return;
+        }
+    };
+    let Ok(name) = str::from_utf8(&path[..length]) else {
+        fail(rt, "the file's name", io::Error::other("not UTF-8"));
         return;
+    };
+    match fs::open(rt, name) {
+        Ok(mut file) => list(rt, &mut file, name),
+        Err(error) => fail(rt, name, error),
     }
-    let fd = os::open_read(&path[..length]);
-    if fd < 0 {
-        os::fail(&path[..length]);
-        return;
-    }
-    list(fd, &path[..length]);
-    libc::close(fd);
 }
 
-fn main() {
-    let count = os::arg_count();
+// How many arguments the program was started with, its own name among them. No more than three are counted.
+fn arg_count(rt: &impl Env) -> usize {
+    let mut text = [0u8; 1];
+    for count in 0..3usize {
+        if let Err(FillError::NotPresent) = rt.arg(count, &mut text) {
+            return count;
+        }
+    }
+    3
+}
+
+fn main(rt: HostRuntime) {
+    let count = arg_count(&rt);
     if count <= 1 {
-        list(STDIN_FILENO, b"standard input");
+        list(&rt, &mut rt.stdin(), "standard input");
         return;
     }
     if count == 2 {
-        list_named();
+        list_named(&rt);
         return;
     }
-    io::write_all(
-        STDERR_FILENO,
-        b"list: one file at a time, or none and the records on standard input\n",
-    );
+    let _ = eprintln!(rt; "list: one file at a time, or none and the records on standard input");
 }

@@ -184,30 +184,30 @@ impl Line {
     }
 
     // A note is written as it stands, from its '#' on, to say what the answers below it are about.
-    fn with_written(self, byte: u8) -> Line {
-        print::put(byte);
+    fn with_written(self, rt: &impl Print, byte: u8) -> Line {
+        print::put(rt, byte);
         let mut next = self;
         next.shape = word::NOTE;
         next
     }
 
     // A line that starts with '#' is a note.
-    fn with_note(self) -> Line {
+    fn with_note(self, rt: &impl Print) -> Line {
         let closed = self.closed();
         let shape = closed.shape;
         match shape {
-            word::BLANK => self.with_written(b'#'),
+            word::BLANK => self.with_written(rt, b'#'),
             _ => self.wrong(),
         }
     }
 
-    fn read(self, byte: u8) -> Line {
+    fn read(self, rt: &impl Print, byte: u8) -> Line {
         match byte {
             b'0'..=b'9' => self.with_digit(byte - b'0'),
             b'a'..=b'z' => self.with_letter(byte),
             b' ' | b'=' | b'@' => self.closed(),
             b'-' => self.with_dash(),
-            b'#' => self.with_note(),
+            b'#' => self.with_note(rt),
             b'|' => self.ended(),
             _ => self.wrong(),
         }
@@ -231,13 +231,13 @@ impl Line {
     }
 
     // One byte more. A command ends at the end of its line or of the text, and where a run of equal entries begins.
-    pub(crate) fn with(self, byte: u8) -> Line {
+    pub(crate) fn with(self, rt: &impl Print, byte: u8) -> Line {
         let shape = self.shape;
         match byte {
             0 | b'\n' => self.ended(),
             _ => match shape {
-                word::NOTE => self.with_written(byte),
-                _ => self.read(byte),
+                word::NOTE => self.with_written(rt, byte),
+                _ => self.read(rt, byte),
             },
         }
     }

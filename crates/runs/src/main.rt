@@ -1,9 +1,9 @@
 // Runs the machine on the commands of standard input, one to a line, and writes what it answers.
 #![tactic(auto)]
 
-use libc::STDIN_FILENO;
 use line::Line;
 use state::{Answer, Report, State};
+use std::io::Read;
 use table::Table;
 
 mod desk;
@@ -24,24 +24,24 @@ fn tick(table: Table, state: State, said: Report) -> Answer {
     answer
 }
 
-fn fresh(table: Table, tick: u64) -> State {
+fn fresh(rt: &impl Print, table: Table, tick: u64) -> State {
     let start = State::fresh(table, desk::tick(tick));
     let verdict = start.verdict;
-    print::fresh(verdict.number(), verdict.position());
+    print::fresh(rt, verdict.number(), verdict.position());
     start.state
 }
 
 // The state as it is set by hand, or as it is.
-fn set(table: Table, state: State, line: Line) -> State {
+fn set(rt: &impl Print, table: Table, state: State, line: Line) -> State {
     let word = line.word;
     match word {
-        word::FRESH => fresh(table, line.eighth),
+        word::FRESH => fresh(rt, table, line.eighth),
         word::STATE => desk::state(line),
         word::JOB => desk::with_job(state, line),
         word::DEPTH => desk::with_stack(state, line.seventh, line),
         word::SECTION => desk::with_stack(state, line.fifth, line),
         word::SHOW => {
-            print::state(state);
+            print::state(rt, state);
             state
         }
         _ => state,
@@ -49,14 +49,14 @@ fn set(table: Table, state: State, line: Line) -> State {
 }
 
 // What the machine answers; where it is not called, 0 and the state as it is set.
-fn answered(table: Table, state: State, line: Line) -> Answer {
+fn answered(rt: &impl Print, table: Table, state: State, line: Line) -> Answer {
     let word = line.word;
     match word {
         word::RELEASE => machine::release(table, state, line.eighth as usize),
         word::CHOOSE => machine::choose(table, state),
         word::REPORT => machine::report(table, state, desk::said(line)),
         word::TICK => tick(table, state, desk::said(line)),
-        _ => Answer::bare(0, set(table, state, line)),
+        _ => Answer::bare(0, set(rt, table, state, line)),
     }
 }
 
@@ -69,11 +69,12 @@ fn tabled(table: Table, line: Line) -> Table {
     }
 }
 
-fn run(table: Table, state: State, line: Line) -> State {
-    let answer = answered(table, state, line);
+fn run(rt: &impl Print, table: Table, state: State, line: Line) -> State {
+    let answer = answered(rt, table, state, line);
     let runner = answer.runner;
     let mode = answer.mode;
     print::answer(
+        rt,
         line.word,
         state.tick.0,
         line.eighth,
@@ -87,25 +88,26 @@ fn run(table: Table, state: State, line: Line) -> State {
 }
 
 // The next byte of the text; 0 at its end.
-fn next_byte() -> u8 {
+fn next_byte(input: &mut impl Read) -> u8 {
     let mut text = [0u8; 1];
-    io::read_full(STDIN_FILENO, &mut text);
+    let _ = input.read(&mut text);
     text[0]
 }
 
 // No text has so many bytes as there are turns.
-fn main() {
+fn main(rt: HostRuntime) {
+    let mut input = rt.stdin();
     let mut line = Line::after(b'\n');
     let mut table = desk::table(line);
     let start = State::fresh(table, desk::tick(0));
     let mut state = start.state;
     for _turn in 0..usize::MAX {
-        let byte = next_byte();
-        let longer = line.with(byte);
+        let byte = next_byte(&mut input);
+        let longer = line.with(&rt, byte);
         line = longer;
         if line.has_ended {
             let laid = tabled(table, line);
-            let next = run(laid, state, line);
+            let next = run(&rt, laid, state, line);
             table = laid;
             state = next;
             line = Line::after(byte);
