@@ -1,5 +1,5 @@
 use mathlib.Core.Path.{◌≡◌, sym}
-use native.Mathlib.Nat.{le_trans, le_of_eq}
+use native.Mathlib.Omega.{arith}
 use lib.ListN.{length, get_or-eq_default}
 use Rattle.units.specs.Amounts.{steps}
 use Rattle.units.proofs.Laws.Folds.{long}
@@ -10,4 +10,4 @@ pub returns : goal.returns
 returns c =
     let l = c.args.self.limits in
     let h : length l ≡ 8 = search (rules, long) in
-    sym (get_or-eq_default l (steps 0) (le_trans (le_of_eq h) c.if-r-lt8.false))
+    sym (get_or-eq_default l (steps 0) (omega (arith, h)))
