@@ -25,6 +25,7 @@ fn after_deadline(task: Task) -> u64
     0
 }
 
+#[tactic(auto, unfolding(consistency::specs::Consistency::pending_fits))]
 fn pending_fits(task: Task, now: Tick, job: Job) -> bool
     ensures { result ≡ pending_fits task now.0 job }
 {

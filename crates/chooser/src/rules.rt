@@ -64,6 +64,7 @@ fn no_holder_behind(mark: Mark, old: u64, run: u64, task: Task) -> Turn
 }
 
 // Rules 1 and 2, then the others, of a runner with its task; `inherited` is the speed of rule 1.
+#[tactic(auto, unfolding(seen::specs::Seen::rules_by))]
 pub fn rules(now: Tick, mark: Mark, seen: Seen, run: u64, task: Task, inherited: u8) -> Turn
     ensures { result ≡ rules_by now.0 mark seen run task inherited }
 {

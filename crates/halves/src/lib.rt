@@ -78,6 +78,7 @@ pub fn closed(state: State, position: usize, job: Job) -> State
 }
 
 // Whether one of those that are due is still there after the tick, where the job at a position has ended or has not.
+#[tactic(auto, unfolding(seen::specs::Seen::late_by))]
 pub fn late(due: u16, position: usize, ended: bool) -> bool
     ensures { result ≡ late_by due position ended }
 {

@@ -11,6 +11,7 @@ use table::Table;
 mod parts;
 
 // A job of the task at a position is taken on, or refused.
+#[tactic(auto, using(crate::proofs::Laws::Found::found_waiting))]
 pub fn release(table: Table, state: State, position: usize) -> Answer
     ensures { result ≡ release table state position }
 {
@@ -69,6 +70,7 @@ pub fn choose(table: Table, state: State) -> Answer
 }
 
 // The second half of a tick: what the runner's job says; or refused: 9, 11, 14, 13, 15, 16.
+#[tactic(auto, using(crate::proofs::Laws::Found::found_between))]
 pub fn report(table: Table, state: State, said: Report) -> Answer
     ensures { result ≡ report table state said }
 {

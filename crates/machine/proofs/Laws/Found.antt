@@ -5,7 +5,7 @@ use mathlib.Core.Bool.{Bool, true, false, not}
 use native.Mathlib.Omega.{arith}
 use lib.ListN.{length, set}
 use borrow.Author.Tests.{eq-eqb, ne_eqb}
-use Rattle.units.proofs.Laws.Tests.{cond_yes, cond_no}
+use Rattle.units.proofs.Laws.Tests.{failed, cond_yes, cond_no}
 use Rattle.verdict.specs.declared.Verdict.{Verdict}
 use Rattle.verdict.specs.Verdict.{answer}
 use Rattle.table.specs.declared.Task.{Task}
@@ -28,10 +28,10 @@ use Rattle.consistency.specs.Consistency.{consistent}
 use Rattle.seen.specs.declared.Examined.{Examined}
 use Rattle.seen.specs.declared.Reported.{Reported}
 use Rattle.seen.specs.Seen.{due, examined, runner_position, reported_by, late_by}
-use Rattle.seen.proofs.Laws.Examined.{runner-there, handed_back}
+use Rattle.seen.proofs.Laws.Examined.{fit, runner-there, handed_back}
 use Rattle.seen.proofs.Laws.Reports.{answered, report-by}
 use Rattle.machine.specs.Machine.{mid_tick, released, release, chosen, choose, report}
-use Rattle.machine.proofs.Laws.Calls.{release_12, release-taken, choose_makes, report-runs}
+use Rattle.machine.proofs.Laws.Calls.{report_11, release_12, release-taken, choose_makes, report-runs}
 
 -- a position in a table that passed is below 16
 pub found_place : (t : Table) {p : ℕ} {v : Verdict} {n : ℕ} → p < t.count → v ≡ verdict t → n ≡ (answer v).0 → n ≡ 0 → p < 16
@@ -45,6 +45,15 @@ module _ (t : Table) (s : State) (p : ℕ) (good : consistent t s ≡ true) (bet
   pub found_free : j.wait.0 ≤ 0 → {next : Job} {task : Task} → next ≡ released task s.tick.0 → task ≡ task_at t p
       → release t s p ≡ bare 0 (record { tick = s.tick; jobs = set s.jobs p next; mark = s.mark; half = s.half; runner = s.runner })
   found_free l h i = release-taken t s good between p there (rw (← e) l) ∙ rw (h, i)
+
+-- what each call gave, and what each test said of it, up to whether the state is in mid-tick
+module _ (t : Table) (s : State) {v : Verdict} {n : ℕ} {x : Examined} {h : Bool} (a : v ≡ verdict t) (b : n ≡ (answer v).0) (z : n ≡ 0) (e : x ≡ examined t s)
+    (f : not x.fits ≡ false) (g : h ≡ mid_tick s.half) where
+  pub found_waiting : (p : ℕ) → h ≡ false → p < t.count → 0 < (job_at s p).wait.0 → release t s p ≡ bare 12 s
+  found_waiting p m l w = release_12 t s (fit t s e f a b z) (sym g ∙ m) p l w
+
+  pub found_between : (said : Report) → not h ≡ true → report t s said ≡ bare 11 s
+  found_between said m = report_11 t s (fit t s e f a b z) said (failed g m)
 
 -- a choice and a report, with what the examination handed back
 module _ (t : Table) (s : State) {found : Examined} (e : found ≡ examined t s) (fits : not found.fits ≡ false) where

