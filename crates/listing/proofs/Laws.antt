@@ -17,7 +17,7 @@ use Rattle.units.specs.declared.Tick.{Tick}
 use Rattle.state.specs.{declared.State.State, declared.Start.Start, State.fresh}
 use Rattle.records.specs.{Records.event_count, Records.well_formed, Contents.table, Contents.start}
 use Rattle.lines.specs.declared.Line.TheVariants as Line
-use Rattle.lines.specs.Lines.{text}
+use Rattle.lines.specs.Lines.{text, laid, leaves, answers}
 use Rattle.lines.proofs.Laws.{Lengths.text-le, Whole.Written, Whole.Laid, Whole.written-laid, Whole.laid-written}
 use Rattle.lines.proofs.Laws.Following.{Begins, lent_from, back_at, begins_first, begins_more}
 use Rattle.records.proofs.Laws.{lines_within}
@@ -64,6 +64,18 @@ begun {t} {now} {s} {n} {r} {m} l file room reads begins starts says w = record 
         let e : listed file ≡ line ++ events = rw (← number, eq-eqb _ _ h, starts, begins, reads) refl in
         let all = begins_more l line m r events first fits laid in
         rw e (all.0, all.1)
+
+-- a file whose table does not pass is listed with the table's line alone
+module _ (l file : List ℕ) {t : Table} {now : Tick} {s : Start} {n : ℕ} (room : 64 + 64 * event_count file ≤ length l) (reads : t ≡ table file)
+    (begins : now ≡ start file) (starts : s ≡ fresh t now) (says : n ≡ (answer s.verdict).0) (not_passed : n ≡ 0 → ⊥) where
+  alone : (r : ℕ) (m : List ℕ) → Written 64 l (text (Line.Table n)) r m → Laid l (listed file) r m
+  alone r m w = (begun l file room reads begins starts says w).stops not_passed
+
+  pub alone_text : laid l (listed file) ≡ leaves 64 l (text (Line.Table n))
+  alone_text = sym (alone (answers 64 l (text (Line.Table n))) (leaves 64 l (text (Line.Table n))) (refl, refl)).0
+
+  pub alone_count : answers 64 l (text (Line.Table n)) ≡ length (listed file)
+  alone_count = (alone (answers 64 l (text (Line.Table n))) (leaves 64 l (text (Line.Table n))) (refl, refl)).1
 
 listed_le : (file : List ℕ) → length (listed file) ≤ 64 + 64 * event_count file
 unfolding listed

@@ -42,6 +42,7 @@ fn write_events(file: &[u8], table: Table, start: State, out: &mut [u8]) -> usiz
 }
 
 // Writes the listing of a well-formed file at the start of the output, and answers how long it is.
+#[tactic(auto, using(crate::proofs::Laws::alone_text, crate::proofs::Laws::alone_count))]
 fn write_listed(file: &[u8], out: &mut [u8]) -> usize
     requires { 64 + 64 * event_count file.now ≤ length out.old }
     ensures { (out.new ≡ laid out.old (listed file.now)) × (result ≡ length (listed file.now)) }

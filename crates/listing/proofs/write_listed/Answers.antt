@@ -3,11 +3,6 @@ use Rattle.lines.proofs.Laws.Following.{lent_length}
 use Rattle.listing.proofs.Laws.{Begun, begun}
 use Rattle.listing.proofs.write_listed.Goals as goal
 
-pub returns-then-number-ne0 : goal.returns-then-number-ne0
-returns-then-number-ne0 c =
-    let w : Begun c.args.out.now c.args.file.now c.table-table.result c.fresh-start.result.state c.number-number.result c.write-at.result c.write-at.new.out = search begun in
-    w.stops c.if-number-ne0.true
-
 pub slice_bounds-write_events-count : goal.slice_bounds-write_events-count
 slice_bounds-write_events-count c =
     let w : Begun c.args.out.now c.args.file.now c.table-table.result c.fresh-start.result.state c.number-number.result c.write-at.result c.write-at.new.out = search begun in
@@ -31,4 +26,4 @@ overflow_add-result c =
 pub returns : goal.returns
 returns c =
     let w : Begun c.args.out.now c.args.file.now c.table-table.result c.fresh-start.result.state c.number-number.result c.write-at.result c.write-at.new.out = search begun in
-    w.goes c.if-number-ne0.false c.write_events.ensures
+    w.goes (omega arith) c.write_events.ensures
