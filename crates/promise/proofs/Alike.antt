@@ -1,5 +1,5 @@
 -- Two machines that answer alike at a place, and after a choice there, keep the same at it. Assumes nothing.
-use Prim.Native.Nat.{ℕ, ◌≤◌, ◌<◌}
+use Prim.Native.Nat.{ℕ, ◌<◌}
 use mathlib.Core.Path.{◌≡◌, sym, ap, ◌∙◌, subst}
 use mathlib.Core.Bool.{true, false}
 use mathlib.Core.List.{List}
@@ -7,10 +7,10 @@ use mathlib.Core.Logic.{◌⊎◌, inl, inr}
 use mathlib.Core.Option.{some}
 use Rattle.table.specs.declared.Table.{Table}
 use Rattle.table.specs.Table.{D, ceiling}
-use Rattle.state.specs.{declared.State.State, declared.Answer.Answer, declared.Mark.TheVariants.Absent, declared.Mode.TheVariants.Independent, declared.Mode.TheVariants.Synchronization, declared.Report.TheVariants.CarryOn, Answers.bare}
-use Rattle.state.specs.declared.Runner.TheVariants.{Nobody, Job}
+use Rattle.state.specs.{declared.State.State, declared.Answer.Answer, declared.Mode.TheVariants.Independent, declared.Mode.TheVariants.Synchronization, declared.Report.TheVariants.CarryOn, Answers.bare}
+use Rattle.state.specs.declared.Runner.TheVariants.{Job}
 use Rattle.promise.specs.History.{Machine, Call, release, choose, report, answered, Line, is_own, sections, IsOpen, has_started, latest, is_there, Ahead, standing, ending_by}
-use Rattle.promise.specs.Promise.{Below, InMode, FirstBlocked, Kept}
+use Rattle.promise.specs.Promise.{Below, FirstBlocked, Kept}
 use Rattle.promise.proofs.History.Tells.{line}
 
 module _ {m n : Machine} {t : Table} {now : ℕ} {s : State} {h : List Line} (k : Kept m t now s h) (e : (call : Call) → answered n t s call ≡ answered m t s call)
@@ -28,13 +28,13 @@ module _ {m n : Machine} {t : Table} {now : ℕ} {s : State} {h : List Line} (k 
     refused_bare = λ call. subst (λ (a : Answer). (a.number ≡ 0 → ⊥) → a ≡ bare a.number s) (sym (e call)) (k.refused_bare call);
     released_bare = λ j. subst (λ (a : Answer). a ≡ bare a.number a.state) (sym (e (release j))) (k.released_bare j);
     as_chosen = λ said. subst (λ (a : Answer). a.number ≡ 0 → (c : Answer) × (standing h ≡ some c) × (a.runner ≡ c.runner) × (a.mode ≡ c.mode) × (a.speed ≡ c.speed)) (sym (e (report said))) (k.as_chosen said);
-    at_a_speed = λ said j. subst (λ (a : Answer). is_own j (line (report said) a) ≡ true → (1 ≤ a.speed) × (a.speed ≤ t.full) × InMode t j a.mode a.speed) (sym (e (report said))) (k.at_a_speed said j);
-    over_a_holder = λ said i j p x. subst (λ (a : Answer). is_own i (line (report said) a) ≡ true → (j ≡ i → ⊥) → is_there t j h ≡ true → IsOpen (sections j (latest j h)) p x → a.mode ≡ Synchronization) (sym (e (report said))) (k.over_a_holder said i j p x);
+    at_a_speed = λ said j. rw (e (report said)) (k.at_a_speed said j);
+    over_a_holder = λ said i j p x. rw (e (report said)) (k.over_a_holder said i j p x);
     in_order = λ i j. subst (λ (a : Answer). a.number ≡ 0 → a.runner ≡ Job i → is_there t j h ≡ true → Ahead t h j i
         → (has_started j (latest j h) ≡ false) × (has_started i (latest i h) ≡ true) × (a.mode ≡ Synchronization) × FirstBlocked t h) (sym (e choose)) (k.in_order i j);
     starts_free = λ i j p x. subst (λ (a : Answer). a.number ≡ 0 → a.runner ≡ Job i → has_started i (latest i h) ≡ false → (j ≡ i → ⊥) → is_there t j h ≡ true → IsOpen (sections j (latest j h)) p x → D t i < ceiling t x.resource) (sym (e choose)) (k.starts_free i j p x);
     until_a_take = λ none. subst (λ (a : Answer). a.number ≡ 0 → a.mode ≡ Independent) (sym (e choose)) (k.until_a_take none);
-    idles_alone = subst (λ (a : Answer). a.number ≡ 0 → a.runner ≡ Nobody → ((j : ℕ) → is_there t j h ≡ false) × (a.mode ≡ Independent) × (a.speed ≡ 0) × (a.state.mark ≡ Absent)) (sym (e choose)) k.idles_alone;
+    idles_alone = rw (e choose) k.idles_alone;
     says_ending = λ call. subst (λ (a : Answer). a.ending ≡ ending_by t h (line call a) a.runner) (sym (e call)) (k.says_ending call);
     in_the_state = k.in_the_state;
     its_tick = k.its_tick;
