@@ -13,7 +13,6 @@ use Rattle.table.specs.{declared.Task.Task, declared.Table.Table, Table.task_at,
 use Rattle.state.specs.{declared.State.State, declared.Answer.Answer, declared.Section.Section, declared.Runner.Runner, declared.Report.Report, declared.Report.TheVariants.CarryOn, declared.Report.TheVariants.Done, declared.Report.TheVariants.Take, declared.Report.TheVariants.Give}
 use Rattle.state.specs.declared.Runner.TheVariants.{Nobody, Job}
 use Rattle.records.specs.declared.Event.{Event}
-use Rattle.records.specs.declared.Event.TheVariants as Event
 use Rattle.records.specs.{Records.first_event, Contents.event}
 use Rattle.lines.specs.declared.Line.TheVariants as Line
 use Rattle.listing.specs.declared.Step.{Step}

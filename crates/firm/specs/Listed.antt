@@ -6,7 +6,6 @@ use Rattle.table.specs.declared.Table.{Table}
 use Rattle.state.specs.{declared.State.State}
 use Rattle.records.specs.declared.Event.{Event}
 use Rattle.lines.specs.declared.Line.{Line}
-use Rattle.lines.specs.declared.Line.TheVariants as Line
 use Rattle.listing.specs.Listing.{step, page}
 use Rattle.promise.specs.History.{written, Call, lines, start, state_after, standing}
 use Rattle.promise.specs.Promise.{Passed}

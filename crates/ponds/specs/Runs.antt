@@ -4,7 +4,6 @@ use Rattle.units.specs.Clock as Clock
 use Rattle.table.specs.declared.Table.{Table}
 use Rattle.state.specs.{declared.Job.Job, declared.State.State, declared.Report.Report, declared.Report.TheVariants.CarryOn, State.job_at, State.fresh}
 use Rattle.records.specs.declared.Event.{Event}
-use Rattle.records.specs.declared.Event.TheVariants as Event
 use Rattle.lines.specs.declared.Line.{Line}
 use Rattle.listing.specs.Listing.{step}
 

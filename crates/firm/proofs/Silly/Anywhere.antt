@@ -12,7 +12,7 @@ use Rattle.table.specs.Table.{C}
 use Rattle.state.specs.{declared.Section.Section, declared.State.State, declared.Answer.Answer, declared.Runner.Runner, declared.Report.Report, declared.Report.TheVariants.Done, Stack.no_section, State.job_at}
 use Rattle.state.specs.declared.Runner.TheVariants.{Nobody, Job}
 use Rattle.state.specs.declared.Job as Job
-use Rattle.promise.specs.History.{Machine, Call, release, choose, report, Line, line_of, lines, state_after, start, is_at, is_tick, is_own, steps_given, sections, is_last, ends_at, is_release, latest, is_there, ending_by, pending_by, absent_by, job_by}
+use Rattle.promise.specs.History.{Machine, Call, report, Line, line_of, lines, state_after, start, is_at, is_tick, is_own, steps_given, sections, is_last, ends_at, is_release, latest, is_there, ending_by, pending_by, absent_by, job_by}
 use Rattle.promise.specs.Promise.{Passed, Kept, Promise}
 use Rattle.promise.proofs.History.Counts.{not-worked, has-worked, same-sections, next-sections}
 use Rattle.promise.proofs.History.List.{is-pending, latest_on, there_on}

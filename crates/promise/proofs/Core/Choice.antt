@@ -2,7 +2,7 @@
 use mathlib.Core.Path.{◌≡◌, sym, ◌∙◌, ap, subst}
 use mathlib.Core.Bool.{true, false}
 use mathlib.Core.Logic.{◌⊎◌, inl, inr, ◌≢◌}
-use Prim.Native.Nat.{ℕ, ◌-◌, ◌≤◌, ◌<◌}
+use Prim.Native.Nat.{ℕ, ◌≤◌, ◌<◌}
 use native.Mathlib.Decide.{dec_le, ℕ_discrete}
 use native.Mathlib.Omega.{arith}
 use Rattle.units.proofs.Laws.Folds.{sum_same}

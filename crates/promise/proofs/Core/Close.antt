@@ -12,7 +12,7 @@ use Rattle.promise.proofs.Core.Tasks.{Tasks}
 use Rattle.promise.proofs.Core.Demand.{asked_in, clash}
 use Rattle.promise.proofs.Core.View.{View, Numbers, asks_for, demand, Shorter, Clear, Nearer, Beyond, AtI, AtS, Room, none_due, at-I, at-S, Between}
 use Rattle.promise.proofs.Core.Choice.{Free, Blocked, Marked, nearest, runner-first}
-use Rattle.promise.proofs.Core.Stack.{ahead, shorter, runner_blocks}
+use Rattle.promise.proofs.Core.Stack.{ahead, runner_blocks}
 use Rattle.promise.proofs.Core.Tick.{Closing, S-some, was, was_started, was_distance, demand_le, demand_less}
 
 module _ {tasks : Tasks} {v u : View} {r top steps : ℕ} (c : Closing tasks v u r top steps) where

@@ -18,9 +18,8 @@ use Rattle.state.specs.Stack.{section_at}
 use Rattle.state.specs.Order.{holds}
 use Rattle.state.proofs.Laws.Stacks.{On, holds_at}
 use Rattle.state.specs.State.{job_at}
-use Rattle.choice.specs.Choice.{runner}
 use Rattle.consistency.proofs.Laws.Jobs.{StackFits, HeldFits, NotPendingFits}
-use Rattle.promise.specs.History.{written, Line, ticks_closed, sections, IsOpen, stack_of, latest, is_there, wait, standing, pending_by, absent_by, job_by, half_by, runner_by}
+use Rattle.promise.specs.History.{written, Line, ticks_closed, sections, IsOpen, stack_of, latest, is_there, standing, pending_by, absent_by, job_by, half_by, runner_by}
 use Rattle.promise.specs.Promise.{Passed}
 use Rattle.promise.proofs.Edge.Invariant.{passes, Good}
 use Rattle.promise.proofs.Edge.View.{inside, below_16}

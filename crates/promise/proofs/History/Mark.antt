@@ -1,9 +1,9 @@
 -- In a history nobody behind a mark holds anything, so that a mark which stands does not move. Assumes nothing.
-use Prim.Native.Nat.{ℕ, ◌-◌, ◌^◌, max, ◌≤◌, ◌<◌}
+use Prim.Native.Nat.{ℕ, ◌^◌, max, ◌≤◌, ◌<◌}
 use mathlib.Core.Path.{◌≡◌, refl, sym, ap, ◌∙◌, subst}
 use mathlib.Core.Bool.{true, false≢true}
 use mathlib.Core.List.{List, [], ◌∷◌}
-use mathlib.Core.Logic.{◌⊎◌, inl, inr, ◌≢◌}
+use mathlib.Core.Logic.{◌⊎◌, inl, inr}
 use native.Mathlib.Decide.{dec_lt, ℕ_discrete}
 use native.Mathlib.Omega.{arith}
 use lib.ListN.{set}

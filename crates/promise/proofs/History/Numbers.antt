@@ -1,5 +1,5 @@
 -- The number of each call, by the whole list, and what a refusal and a release answer. Assumes nothing.
-use Prim.Native.Nat.{ℕ, zero, suc, ◌-◌, ◌≤◌, ◌<◌}
+use Prim.Native.Nat.{ℕ, zero, suc, ◌≤◌, ◌<◌}
 use mathlib.Core.Path.{◌≡◌, refl, sym, ap, ap₂, ◌∙◌}
 use mathlib.Core.Bool.{Bool, true, false, cond, ◌||◌, false≢true}
 use mathlib.Core.List.{List}
@@ -15,7 +15,6 @@ use Rattle.units.proofs.Laws.Tests.{cond_yes}
 use Rattle.table.specs.declared.Table.{Table}
 use Rattle.table.specs.Table.{task_at, limit}
 use Rattle.state.specs.declared.Answer.{Answer}
-use Rattle.state.specs.declared.Job.{Job}
 use Rattle.state.specs.declared.Section.{Section}
 use Rattle.state.specs.declared.Stack.{Stack}
 use Rattle.state.specs.declared.Half.TheVariants.{First, Second}
@@ -28,7 +27,7 @@ use Rattle.state.specs.State.{job_at}
 use Rattle.state.specs.Answers.{bare}
 use Rattle.state.specs.Stack.{section_at}
 use Rattle.state.specs.Order.{holds, held_resources}
-use Rattle.choice.specs.Choice.{runner, turn}
+use Rattle.choice.specs.Choice.{turn}
 use Rattle.report.specs.Report as Report
 use Rattle.report.proofs.Laws.Answers.{idle-objects, can-take}
 use Rattle.consistency.proofs.Laws.Jobs.{StackFits}
@@ -42,7 +41,7 @@ use Rattle.promise.proofs.Keep.Idle.{idle_goes_on}
 use Rattle.promise.proofs.Keep.Each.{keep}
 use Rattle.promise.proofs.Keep.Run.{none_holds, run_number}
 use Rattle.promise.proofs.Keep.Run as Run
-use Rattle.promise.proofs.History.Listed.{there, Stage, between, midway, Listed}
+use Rattle.promise.proofs.History.Listed.{Stage, between, midway, Listed}
 use Rattle.promise.proofs.History.Opened.{down, opened}
 use Rattle.promise.proofs.History.Places.{opened_length, held-is}
 use Rattle.promise.proofs.History.Holds.{tells, stack-fits}
