@@ -4,7 +4,7 @@
     python3 tools/respell.py            at the top of the repository
 
 What port.py leaves are the names that are the repository's own. This respells, in specs/, proofs/, src/, the must-fail edits, the
-pages and the tests:
+pages and the tests (what port.py itself had respelled is turned in the pages by hand):
 
 - a word in camel case (`howMany`) in snake case (`how_many`), and `Up`, which is a word and no type, as `up`;
 - a dash in a name of the repository's own as `_`, unless it stands between two names of definitions (`sum-le`).
@@ -92,8 +92,6 @@ def main():
             out += ("-" if left in plain and right in plain else "_") + right
         if out != n and out not in tokens | own | set(names.values()):
             names[n] = out
-        elif names.get(n, n) != n:
-            names[n] = names[n]
     # two names that fall together: one of them keeps its dashes (above); a word and a function, field or lemma of another place may
     by_new = {}
     for old, new in names.items():
