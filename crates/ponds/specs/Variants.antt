@@ -4,7 +4,7 @@ use Rattle.units.specs.Clock.{tick}
 use Rattle.verdict.specs.{declared.Verdict.Verdict, Verdict.answer}
 use Rattle.table.specs.{declared.Table.Table}
 use Rattle.admission.specs.Admission.{verdict}
-use Rattle.state.specs.{declared.State.State, declared.Answer.Answer, declared.Report.Report, State.job_at, State.empty, Order.no_place, Answers.bare}
+use Rattle.state.specs.{declared.State.State, Answers.Answer, declared.Report.Report, State.job_at, State.empty, Order.no_place, Answers.bare}
 use Rattle.choice.specs.{declared.Turn.Turn, Choice.top, Choice.idle, Choice.in_mid_tick, Choice.turn}
 use Rattle.report.specs.Report.{report_as}
 use Rattle.machine.specs.Machine.{mid_tick, released_at, chosen}

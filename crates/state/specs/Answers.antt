@@ -35,7 +35,12 @@ ending_number Cut = 2
 abbrev pub bare : ℕ → State → Answer
 bare n s = record { number = n; state = s; runner = Nobody; mode = Independent; speed = 0; ending = 0 }
 
--- "0 is success.": what the code's answer to a call on a state tells
+-- "0 is success."
+abbrev pub number_told : {A : Type 0} → Result A Refusal → ℕ
+number_told (Ok a) = 0
+number_told (Err r) = refusal_number r
+
+-- what the code's answer to a call on a state tells
 abbrev pub told : State → Result Success Refusal → Answer
 told s (Ok a) = record { number = 0; state = a.state; runner = a.runner; mode = a.mode; speed = a.speed; ending = ending_number a.ending }
 told s (Err r) = bare (refusal_number r) s

@@ -13,7 +13,7 @@ use Rattle.units.specs.Amounts.{given}
 use Rattle.units.specs.Clock.{after}
 use Rattle.units.proofs.Laws.Folds.{both}
 use Rattle.table.specs.declared.Table.{Table}
-use Rattle.state.specs.{declared.State.State, declared.Answer.Answer, declared.Runner.Runner, declared.Report.Report, declared.Report.TheVariants.CarryOn, State.job_at}
+use Rattle.state.specs.{declared.State.State, Answers.Answer, declared.Runner.Runner, declared.Report.Report, declared.Report.TheVariants.CarryOn, State.job_at}
 use Rattle.state.specs.declared.Runner.TheVariants.{Nobody, Job}
 use Rattle.promise.specs.History.{Machine, Call, release, choose, report, answered, Line, line_of, lines, start, is_report, is_at, is_own, steps_given, longer, after_call, sections, is_last, ends_at, ticks_closed, takes_on, latest, is_there, wait, standing, number_by, runner_by}
 use Rattle.promise.specs.Promise.{Passed, Kept, Promise}

@@ -15,12 +15,11 @@ use Rattle.admission.specs.Admission.{verdict}
 use Rattle.admission.proofs.Laws.Admitted.{admitted}
 use Rattle.state.specs.declared.Job.{Job}
 use Rattle.state.specs.declared.State.{State}
-use Rattle.state.specs.declared.Answer.{Answer}
 use Rattle.state.specs.declared.Report.{Report}
 use Rattle.state.specs.declared.Runner.TheVariants as Runs
 use Rattle.state.specs.State.{job_at}
 use Rattle.state.specs.Order.{held_resources}
-use Rattle.state.specs.Answers.{bare}
+use Rattle.state.specs.Answers.{Answer, bare}
 use Rattle.choice.specs.Choice.{in_mid_tick, choice, turn}
 use Rattle.choice.proofs.Laws.Runner.{runner_below}
 use Rattle.report.proofs.Laws.Answers.{taken-answer}
