@@ -25,8 +25,7 @@ use Rattle.choice.proofs.Laws.Runner.{runner_below}
 use Rattle.report.proofs.Laws.Answers.{taken-answer}
 use Rattle.consistency.specs.Consistency.{consistent}
 use Rattle.seen.specs.declared.Examined.{Examined}
-use Rattle.seen.specs.declared.Reported.{Reported}
-use Rattle.seen.specs.Seen.{due, examined, runner_position, reported_by, late_by}
+use Rattle.seen.specs.Seen.{due, examined, Reported, runner_position, reported_by, late_by}
 use Rattle.seen.proofs.Laws.Examined.{fit, runner-there, handed_back}
 use Rattle.seen.proofs.Laws.Reports.{answered, report-by}
 use Rattle.machine.specs.Machine.{mid_tick, released, release, chosen, choose, report}
