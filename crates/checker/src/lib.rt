@@ -20,8 +20,8 @@ fn mark_fits(count: usize, now: Tick, mark: Mark) -> bool
     ensures { result ≡ mark_fits count now.0 mark }
 {
     match mark {
-        Mark::Absent => true,
-        Mark::At(marked) => (marked.position as usize) < count
+        None => true,
+        Some(marked) => (marked.position as usize) < count
             && now.distance(marked.deadline) <= State::AHEAD,
     }
 }
@@ -30,7 +30,7 @@ fn half_fits(half: Half, on: Runner, old: Mark, begun: bool, turn: Turn) -> bool
     ensures { result ≡ half_fits_by half on old begun turn }
 {
     match half {
-        Half::First => middle::same_runner(Runner::Nobody, on),
+        Half::First => middle::same_runner(None, on),
         Half::Second => middle::unchanged(on, old, begun, turn),
     }
 }

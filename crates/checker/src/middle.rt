@@ -9,13 +9,13 @@ pub(crate) fn same_runner(one: Runner, other: Runner) -> bool
     ensures { result ≡ same_runner one other }
 {
     match one {
-        Runner::Nobody => match other {
-            Runner::Nobody => true,
-            Runner::Job(_) => false,
+        None => match other {
+            None => true,
+            Some(_) => false,
         },
-        Runner::Job(p) => match other {
-            Runner::Nobody => false,
-            Runner::Job(q) => p == q,
+        Some(p) => match other {
+            None => false,
+            Some(q) => p == q,
         },
     }
 }
@@ -24,13 +24,13 @@ fn same_mark(one: Mark, other: Mark) -> bool
     ensures { result ≡ same_mark one other }
 {
     match one {
-        Mark::Absent => match other {
-            Mark::Absent => true,
-            Mark::At(_) => false,
+        None => match other {
+            None => true,
+            Some(_) => false,
         },
-        Mark::At(l) => match other {
-            Mark::Absent => false,
-            Mark::At(m) => l.deadline.0 == m.deadline.0 && l.position == m.position,
+        Some(l) => match other {
+            None => false,
+            Some(m) => l.deadline.0 == m.deadline.0 && l.position == m.position,
         },
     }
 }

@@ -1,8 +1,7 @@
 // What the calls are made of: one job, one task.
-ghost use Rattle.std.specs.Prelude.{◌≡◌, ℕ, ◌<◌, set};
+ghost use Rattle.std.specs.Prelude.{◌≡◌, ℕ, ◌<◌, set, Some};
 ghost use Rattle.table.specs.Table.{task_at};
 ghost use Rattle.state.specs.State.{job_at};
-ghost use Rattle.state.specs.declared.Runner.TheVariants as Runs;
 ghost use Rattle.seen.specs.Seen.{reported_by};
 ghost use Rattle.machine.specs.Machine.{mid_tick, released};
 
@@ -63,7 +62,7 @@ pub(crate) fn with_job(state: State, position: usize, job: Job) -> State
 
 // What the report of a turn makes of the runner's job.
 pub(crate) fn reported(table: Table, state: State, turn: Turn, held: u16, said: Report) -> Reported
-    requires { (p : ℕ) → turn.runner ≡ Runs.Job p → p < 16 }
+    requires { (p : ℕ) → turn.runner ≡ Some p → p < 16 }
     ensures { result ≡ reported_by table state turn.runner held turn.speed said }
 {
     let runner = turn.runner;

@@ -1,4 +1,5 @@
 -- Each rule, over what a function finds on its way (a variant, a number that another function gives): where `search` goes on to the tests. Assumes nothing.
+use Rattle.std.specs.Prelude.{Some}
 use Prim.Native.Nat.{ℕ, ◌+◌, ◌-◌}
 use mathlib.Core.Path.{◌≡◌}
 use mathlib.Core.Bool.{Bool, not, ◌&&◌}
@@ -17,11 +18,7 @@ use Rattle.state.specs.declared.Job.{Job}
 use Rattle.state.specs.declared.Stack.{Stack}
 use Rattle.state.specs.Stack.{section_at}
 use Rattle.state.specs.declared.Place.{Place}
-use Rattle.state.specs.declared.Mark.{Mark}
-use Rattle.state.specs.declared.Mark.TheVariants.{At}
-use Rattle.state.specs.declared.Runner.{Runner}
-use Rattle.state.specs.declared.Runner.TheVariants as Runs
-use Rattle.state.specs.State.{passes}
+use Rattle.state.specs.State.{passes, Mark, Runner}
 use Rattle.consistency.specs.Consistency.{pending_fits, section_fits, mark_fits, same_runner, same_mark}
 
 pub found_passes : (t : Table) {v : Verdict} {n : ℕ} {r : Bool} → v ≡ verdict t → n ≡ (answer v).0 → eqb n 0 ≡ r → passes t ≡ r
@@ -42,7 +39,7 @@ found_section task h i e g = rw e at g
 
 -- ---- the mark
 
-module _ (count now : ℕ) {k : Mark} {m : Place} (e : k ≡ At m) {r : Bool} where
+module _ (count now : ℕ) {k : Mark} {m : Place} (e : k ≡ Some m) {r : Bool} where
   pub found_mark : r ≡ (ltb m.position count && leb (distance now m.deadline.0) 65535) → r ≡ mark_fits count now k
   found_mark h = rw e h
 
@@ -51,8 +48,8 @@ module _ (count now : ℕ) {k : Mark} {m : Place} (e : k ≡ At m) {r : Bool} wh
 
 -- ---- the middle of a tick
 
-pub found_runners : {a b : Runner} {p q : ℕ} {r : Bool} → a ≡ Runs.Job p → b ≡ Runs.Job q → r ≡ eqb p q → r ≡ same_runner a b
+pub found_runners : {a b : Runner} {p q : ℕ} {r : Bool} → a ≡ Some p → b ≡ Some q → r ≡ eqb p q → r ≡ same_runner a b
 found_runners e f h = rw (e, f) h
 
-pub found_marks : {a b : Mark} {l m : Place} {r : Bool} → a ≡ At l → b ≡ At m → r ≡ (eqb l.deadline.0 m.deadline.0 && eqb l.position m.position) → r ≡ same_mark a b
+pub found_marks : {a b : Mark} {l m : Place} {r : Bool} → a ≡ Some l → b ≡ Some m → r ≡ (eqb l.deadline.0 m.deadline.0 && eqb l.position m.position) → r ≡ same_mark a b
 found_marks e f h = rw (e, f) h

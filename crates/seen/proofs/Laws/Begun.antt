@@ -10,9 +10,7 @@ use Rattle.table.specs.declared.Table.{Table}
 use Rattle.state.specs.declared.State.{State}
 use Rattle.state.specs.declared.Half.{Half}
 use Rattle.state.specs.declared.Half.TheVariants.{First, Second}
-use Rattle.state.specs.declared.Mark.{Mark}
-use Rattle.state.specs.declared.Runner.{Runner}
-use Rattle.state.specs.State.{job_at}
+use Rattle.state.specs.State.{job_at, Mark, Runner}
 use Rattle.state.specs.Order.{position_of, no_place, is_started, first_in_order}
 use Rattle.state.proofs.Laws.Order.{first-le, first_bound, place-lt}
 use Rattle.state.proofs.Laws.Stacks.{on_any}

@@ -1,6 +1,6 @@
 use mathlib.Core.Path.{sym, ap}
 use native.Mathlib.Omega.{arith}
-use Rattle.state.specs.declared.Runner.{Runner}
+use Rattle.state.specs.State.{Runner}
 use Rattle.lines.specs.Lines.{field, runner}
 use Rattle.lines.proofs.Laws.Pieces.{put_as}
 use Rattle.lines.proofs.pieces.runner.Goals as goal

@@ -1,3 +1,4 @@
+use Rattle.std.specs.Prelude.{Some, None}
 use Prim.Native.Nat.{ℕ, ◌≤◌, ◌<◌}
 use mathlib.Core.Path.{◌≡◌, refl, ◌∙◌}
 use native.Mathlib.Omega.{arith}
@@ -7,9 +8,7 @@ use Rattle.table.specs.Table.{task_at}
 use Rattle.state.specs.declared.Job.{Job}
 use Rattle.state.specs.declared.State.{State}
 use Rattle.state.specs.declared.Report.{Report}
-use Rattle.state.specs.declared.Runner.{Runner}
-use Rattle.state.specs.declared.Runner.TheVariants as Runs
-use Rattle.state.specs.State.{job_at}
+use Rattle.state.specs.State.{job_at, Runner}
 use Rattle.seen.specs.declared.Reported.{Reported}
 use Rattle.seen.specs.Seen.{runner_position, reported, reported_idle, reported_by}
 use Rattle.machine.proofs.parts.reported.Goals as goal
@@ -17,12 +16,12 @@ use Rattle.machine.proofs.parts.reported.Goals as goal
 -- by the runner's position
 module _ (t : Table) (s : State) (held v p : ℕ) (said : Report) {x : Reported} where
   runs : (r : Runner) {task : Task} {j : Job} → x ≡ reported task j held v said → task ≡ task_at t p → j ≡ job_at s p → p ≡ runner_position r → p < 16 → x ≡ reported_by t s r held v said
-  runs Runs.Nobody f g h e l = absurd (omega arith)
-  runs (Runs.Job q) f g h e l = f ∙ rw (g, h, e)
+  runs None f g h e l = absurd (omega arith)
+  runs (Some q) f g h e l = f ∙ rw (g, h, e)
 
-  idles : (r : Runner) → x ≡ reported_idle said → p ≡ runner_position r → 16 ≤ p → ((q : ℕ) → r ≡ Runs.Job q → q < 16) → x ≡ reported_by t s r held v said
-  idles Runs.Nobody f e l h = f
-  idles (Runs.Job q) f e l h = absurd (omega (arith, h q refl))
+  idles : (r : Runner) → x ≡ reported_idle said → p ≡ runner_position r → 16 ≤ p → ((q : ℕ) → r ≡ Some q → q < 16) → x ≡ reported_by t s r held v said
+  idles None f e l h = f
+  idles (Some q) f e l h = absurd (omega (arith, h q refl))
 
 pub returns-then-p-lt-TASKS : goal.returns-then-p-lt-TASKS
 returns-then-p-lt-TASKS c = search runs
