@@ -14,10 +14,7 @@ use units::{Steps, Tick};
 pub(crate) fn mid_tick(half: Half) -> bool
     ensures { result ≡ mid_tick half }
 {
-    match half {
-        Half::First => false,
-        Half::Second => true,
-    }
+    half == Half::Second
 }
 
 // The job of a task that is released.

@@ -10,6 +10,7 @@ use Rattle.table.specs.declared.Table.{Table}
 use Rattle.table.specs.Table.{task_at}
 use Rattle.state.specs.declared.State.{State}
 use Rattle.state.specs.State.{Mark}
+use Rattle.state.specs.declared.Place.{Place}
 use Rattle.state.specs.Order.{place, position_of, no_place, last_holder}
 use Rattle.choice.specs.declared.Turn.{Turn}
 use Rattle.choice.specs.Choice.{top, mark_place, mark_at, alone, rule1, rule2, rule4, no_holder_behind, rules}
