@@ -11,7 +11,7 @@ use Rattle.units.proofs.Laws.Folds.{both, listed_at}
 use Rattle.table.specs.declared.Table.{Table}
 use Rattle.table.specs.Table.{C}
 use Rattle.state.specs.{declared.Section.Section, declared.State.State, declared.Answer.Answer, State.Runner, declared.Report.Report, declared.Report.TheVariants.Done, Stack.no_section, State.job_at}
-use Rattle.state.specs.declared.Job as Job
+use Rattle.state.specs.declared.Job.{Job}
 use Rattle.promise.specs.History.{Machine, Call, report, Line, line_of, lines, state_after, start, is_at, is_tick, is_own, steps_given, sections, is_last, ends_at, is_release, latest, is_there, ending_by, pending_by, absent_by, job_by}
 use Rattle.promise.specs.Promise.{Passed, Kept, Promise}
 use Rattle.promise.proofs.History.Counts.{not-worked, has-worked, same-sections, next-sections}
@@ -104,7 +104,7 @@ module _ (m : Machine) where
 
   -- a report leaves no job with steps that no tick gave it: whatever is read off a job, if the lines tell it and one line more adds no more to it than is allowed
   module _ (t : Table) (passed : Passed m t) (now : ℕ) (small : now < 2 ^ 32) (calls : List Call) (said : Report) (k : ℕ) (keeps : Promise m)
-      (read : Some.Job → ℕ) (told : List Line → ℕ) (read_by_lem : (now : ℕ) (h : List Line) → read (job_by t now k h) ≡ cond (is_there t k h) (told (latest k h)) 0)
+      (read : Job → ℕ) (told : List Line → ℕ) (read_by_lem : (now : ℕ) (h : List Line) → read (job_by t now k h) ≡ cond (is_there t k h) (told (latest k h)) 0)
       (grows : (l : Line) (h : List Line) → told (l ∷ h) ≤ told h + allowed k l.answer.runner l.answer.speed) where
     abbrev was : State
     was = state_after m t (start m t now) calls
