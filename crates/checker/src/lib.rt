@@ -12,26 +12,24 @@ use table::Table;
 use units::Tick;
 
 mod jobs;
-mod middle;
 mod turns;
 mod walks;
 
 fn mark_fits(count: usize, now: Tick, mark: Mark) -> bool
     ensures { result ≡ mark_fits count now.0 mark }
 {
-    match mark {
-        Mark::Absent => true,
-        Mark::At(marked) => (marked.position as usize) < count
-            && now.distance(marked.deadline) <= State::AHEAD,
-    }
+    mark.is_none_or(|marked| {
+        (marked.position as usize) < count && now.distance(marked.deadline) <= State::AHEAD
+    })
 }
 
+// In mid-tick, that making the choice again would change nothing; `begun` tells whether the turn's runner is started.
 fn half_fits(half: Half, on: Runner, old: Mark, begun: bool, turn: Turn) -> bool
     ensures { result ≡ half_fits_by half on old begun turn }
 {
     match half {
-        Half::First => middle::same_runner(Runner::Nobody, on),
-        Half::Second => middle::unchanged(on, old, begun, turn),
+        Half::First => on.is_none(),
+        Half::Second => turn.runner == on && turn.mark == old && begun,
     }
 }
 

@@ -1,12 +1,11 @@
 -- "First half, the choice."
-use Rattle.std.specs.Prelude.{ℕ, ◌/◌, min, max}
+use Rattle.std.specs.Prelude.{ℕ, ◌/◌, min, max, Some, None}
 use mathlib.Core.{Bool.Bool, Bool.true, Bool.not, Bool.◌&&◌, Bool.cond, List.List}
 use lib.{ListN.get_or, ListN.set, Dec.ltb, Dec.leb, Dec.eqb}
 use Rattle.units.specs.{declared.Ticks.Ticks, Amounts.ticks, Clock.tick, Clock.after, Folds.smallest, Folds.largest, Folds.some}
 use Rattle.table.specs.{declared.Task.Task, declared.Table.Table, Table.task_at, Table.D, Table.S, Table.ceilings}
-use Rattle.state.specs.{declared.Job.Job, declared.State.State, declared.Section.Section, declared.Stack.Stack, declared.Place.Place, declared.Mark.Mark, declared.Mark.TheVariants.Absent, declared.Mark.TheVariants.At, declared.Half.TheVariants.Second, declared.Runner.Runner, declared.Mode.TheVariants.Independent, declared.Mode.TheVariants.Synchronization, Stack.any_on, State.job_at, Order.place, Order.place_at, Order.position_of, Order.no_place, Order.is_pending, Order.is_started, Order.first_in_order, Order.last_holder}
+use Rattle.state.specs.{declared.Job.Job, declared.State.State, declared.Section.Section, declared.Stack.Stack, declared.Place.Place, State.Mark, declared.Half.TheVariants.Second, State.Runner, declared.Mode.TheVariants.Independent, declared.Mode.TheVariants.Synchronization, Stack.any_on, State.job_at, Order.place, Order.place_at, Order.position_of, Order.no_place, Order.is_pending, Order.is_started, Order.first_in_order, Order.last_holder}
 use Rattle.choice.specs.{declared.Turn.Turn, declared.Choice.Choice}
-use Rattle.state.specs.declared.Runner.TheVariants as Runs
 
 -- "top is the first pending job in order": its place
 abbrev pub top : State → ℕ
@@ -44,8 +43,8 @@ inherited t s run =
 
 -- the mark's place in the order; 0, behind no other, where there is none
 abbrev pub mark_place : ℕ → Mark → ℕ
-mark_place now Absent = 0
-mark_place now (At m) = place now m.deadline.0 m.position
+mark_place now None = 0
+mark_place now (Some m) = place now m.deadline.0 m.position
 
 -- "the old mark"
 abbrev pub old_mark : State → ℕ
@@ -53,14 +52,14 @@ old_mark s = mark_place s.tick.0 s.mark
 
 -- "The mark becomes" a job at a place
 unfoldable pub mark_at : ℕ → ℕ → Mark
-mark_at now at = At (record { deadline = tick (after now (at / 256)); position = position_of at })
+mark_at now at = Some (record { deadline = tick (after now (at / 256)); position = position_of at })
 
 -- what a rule gives: "synchronization", with a mark and a speed; or "mark removed, independent, speed I"
 abbrev pub synchronized : ℕ → Mark → ℕ → Turn
-synchronized run mark speed = record { runner = Runs.Job (position_of run); mark = mark; mode = Synchronization; speed = speed }
+synchronized run mark speed = record { runner = Some (position_of run); mark = mark; mode = Synchronization; speed = speed }
 
 abbrev pub alone : ℕ → Task → Turn
-alone run task = record { runner = Runs.Job (position_of run); mark = Absent; mode = Independent; speed = task.independent }
+alone run task = record { runner = Some (position_of run); mark = None; mode = Independent; speed = task.independent }
 
 -- 1. "Runner is not top: synchronization. The mark becomes the last in order among the old mark, the runner, and any holders behind the runner." Its speed is inherited.
 abbrev pub rule1 : Table → State → ℕ → Turn
@@ -72,12 +71,12 @@ rule2 t s run = synchronized run (mark_at s.tick.0 (max (old_mark s) (last_holde
 
 -- 4. "A mark stands: synchronization, speed S."
 abbrev pub rule4 : ℕ → Place → Task → Turn
-rule4 run m task = synchronized run (At m) task.synchronization
+rule4 run m task = synchronized run (Some m) task.synchronization
 
 -- 3. "A mark stands and the runner is the marked job or behind it: mark removed, independent, speed I."; else 4; and 5. "Independent, speed I."
 abbrev pub no_holder_behind : Mark → ℕ → ℕ → Task → Turn
-no_holder_behind Absent old run task = alone run task
-no_holder_behind (At m) old run task = cond (leb old run) (alone run task) (rule4 run m task)
+no_holder_behind None old run task = alone run task
+no_holder_behind (Some m) old run task = cond (leb old run) (alone run task) (rule4 run m task)
 
 -- "Then, first that fits"
 unfoldable pub rules : Table → State → ℕ → Turn
@@ -88,7 +87,7 @@ rules t s run =
 
 -- "With no pending job the processor idles: independent, speed 0, mark removed."
 abbrev pub idle : Turn
-idle = record { runner = Runs.Nobody; mark = Absent; mode = Independent; speed = 0 }
+idle = record { runner = None; mark = None; mode = Independent; speed = 0 }
 
 unfoldable pub turn : Table → State → Turn
 turn t s = cond (ltb (top s) no_place) (rules t s (runner t s)) idle
@@ -98,8 +97,8 @@ abbrev pub begun : Job → Job
 begun j = record { pending = j.pending; started = true; deadline = j.deadline; used = j.used; held = j.held; wait = j.wait }
 
 abbrev pub begin : State → Runner → List Job
-begin s Runs.Nobody = s.jobs
-begin s (Runs.Job p) = set s.jobs p (begun (job_at s p))
+begin s None = s.jobs
+begin s (Some p) = set s.jobs p (begun (job_at s p))
 
 -- the state "in mid-tick", by a turn
 abbrev pub in_mid_tick : State → Turn → State

@@ -21,8 +21,8 @@ pub struct Choice {
 impl Turn {
     // Nobody runs, and no mark stands.
     pub const IDLE: Turn = Turn {
-        runner: Runner::Nobody,
-        mark: Mark::Absent,
+        runner: None,
+        mark: None,
         mode: Mode::Independent,
         speed: 0,
     };

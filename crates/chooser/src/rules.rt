@@ -16,8 +16,8 @@ fn mark_place(now: Tick, mark: Mark) -> u64
     ensures { result ≡ mark_place now.0 mark }
 {
     match mark {
-        Mark::Absent => 0,
-        Mark::At(marked) => order::place(now, marked.deadline, marked.position),
+        None => 0,
+        Some(marked) => order::place(now, marked.deadline, marked.position),
     }
 }
 
@@ -26,7 +26,7 @@ fn mark_at(now: Tick, place: u64) -> Mark
     ensures { result ≡ mark_at now.0 place }
 {
     let deadline = now.ahead((place / 256 % 4294967296) as u32);
-    Mark::At(Place {
+    Some(Place {
         deadline,
         position: position(place),
     })
@@ -36,19 +36,19 @@ fn mark_at(now: Tick, place: u64) -> Mark
 fn no_holder_behind(mark: Mark, old: u64, run: u64, task: Task) -> Turn
     ensures { result ≡ no_holder_behind mark old run task }
 {
-    let runner = Runner::Job(position(run));
+    let runner = Some(position(run));
     match mark {
-        Mark::Absent => Turn {
+        None => Turn {
             runner,
-            mark: Mark::Absent,
+            mark: None,
             mode: Mode::Independent,
             speed: task.independent,
         },
-        Mark::At(_) => {
+        Some(_) => {
             if old <= run {
                 return Turn {
                     runner,
-                    mark: Mark::Absent,
+                    mark: None,
                     mode: Mode::Independent,
                     speed: task.independent,
                 };
@@ -76,7 +76,7 @@ pub fn rules(now: Tick, mark: Mark, seen: Seen, run: u64, task: Task, inherited:
             order::farther(old, true, order::farther(run, true, seen.last)),
         );
         return Turn {
-            runner: Runner::Job(k),
+            runner: Some(k),
             mark: moved,
             mode: Mode::Synchronization,
             speed: inherited,
@@ -85,7 +85,7 @@ pub fn rules(now: Tick, mark: Mark, seen: Seen, run: u64, task: Task, inherited:
     if run < seen.last {
         let moved = mark_at(now, order::farther(old, true, seen.last));
         return Turn {
-            runner: Runner::Job(k),
+            runner: Some(k),
             mark: moved,
             mode: Mode::Synchronization,
             speed: task.synchronization,

@@ -1,12 +1,11 @@
 -- "A state is consistent when":
-use Rattle.std.specs.Prelude.{ℕ, ◌+◌, ◌-◌}
+use Rattle.std.specs.Prelude.{ℕ, ◌+◌, ◌-◌, Some, None}
 use mathlib.Core.{Bool.Bool, Bool.true, Bool.false, Bool.not, Bool.◌&&◌, Bool.◌||◌, Bool.cond}
 use lib.{Dec.ltb, Dec.leb, Dec.eqb}
 use Rattle.units.specs.{Clock.distance, Folds.all, Folds.some, Sets.has}
 use Rattle.table.specs.{declared.Task.Task, declared.Table.Table, Table.task_at, Table.limit}
-use Rattle.state.specs.{declared.Job.Job, declared.State.State, declared.Section.Section, declared.Stack.Stack, declared.Mark.Mark, declared.Mark.TheVariants.Absent, declared.Mark.TheVariants.At, declared.Half.Half, declared.Half.TheVariants.First, declared.Half.TheVariants.Second, declared.Runner.Runner, Stack.section_at, Stack.any_on, State.job_at, State.passes, Order.holds_any, Order.holds}
+use Rattle.state.specs.{declared.Job.Job, declared.State.State, declared.Section.Section, declared.Stack.Stack, State.Mark, declared.Half.Half, declared.Half.TheVariants.First, declared.Half.TheVariants.Second, State.Runner, Stack.section_at, Stack.any_on, State.job_at, State.passes, Order.holds_any, Order.holds}
 use Rattle.choice.specs.{declared.Turn.Turn, Choice.turn}
-use Rattle.state.specs.declared.Runner.TheVariants as Runs
 
 -- "a job that is not pending is not started, has used 0 and holds nothing"; "what is not in use is 0": its deadline
 unfoldable pub not_pending_fits : Job → Bool
@@ -73,32 +72,32 @@ positions_fit t s = all (position_fits t s) 16 && all (alone s) 16
 
 -- "a marked position is in the table and its deadline is 0 to 65,535 ticks ahead"
 abbrev pub mark_fits : ℕ → ℕ → Mark → Bool
-mark_fits count now Absent = true
-mark_fits count now (At m) = ltb m.position count && leb (distance now m.deadline.0) 65535
+mark_fits count now None = true
+mark_fits count now (Some m) = ltb m.position count && leb (distance now m.deadline.0) 65535
 
 -- "making the choice again would change nothing, the job on the processor or the idling included"
 abbrev pub same_runner : Runner → Runner → Bool
-same_runner Runs.Nobody Runs.Nobody = true
-same_runner Runs.Nobody (Runs.Job q) = false
-same_runner (Runs.Job p) Runs.Nobody = false
-same_runner (Runs.Job p) (Runs.Job q) = eqb p q
+same_runner None None = true
+same_runner None (Some q) = false
+same_runner (Some p) None = false
+same_runner (Some p) (Some q) = eqb p q
 
 abbrev pub same_mark : Mark → Mark → Bool
-same_mark Absent Absent = true
-same_mark Absent (At m) = false
-same_mark (At l) Absent = false
-same_mark (At l) (At m) = eqb l.deadline.0 m.deadline.0 && eqb l.position m.position
+same_mark None None = true
+same_mark None (Some m) = false
+same_mark (Some l) None = false
+same_mark (Some l) (Some m) = eqb l.deadline.0 m.deadline.0 && eqb l.position m.position
 
 abbrev pub has_begun : State → Runner → Bool
-has_begun s Runs.Nobody = true
-has_begun s (Runs.Job p) = (job_at s p).started
+has_begun s None = true
+has_begun s (Some p) = (job_at s p).started
 
 unfoldable pub unchanged : State → Turn → Bool
 unchanged s u = same_runner u.runner s.runner && (same_mark u.mark s.mark && has_begun s u.runner)
 
 -- "in mid-tick", that; "between ticks there is no job on the processor"
 abbrev pub half_fits : Table → State → Half → Bool
-half_fits t s First = same_runner Runs.Nobody s.runner
+half_fits t s First = same_runner None s.runner
 half_fits t s Second = unchanged s (turn t s)
 
 unfoldable pub consistent : Table → State → Bool

@@ -1,4 +1,5 @@
 -- Each state of a listing is a place of a history, and its lines show few numbers. Assumes nothing.
+use Rattle.std.specs.Prelude.{Some, None}
 use Prim.Native.Nat.{ℕ, zero, suc, ◌+◌, ◌^◌, ◌<◌}
 use mathlib.Core.Path.{◌≡◌, refl, sym, ap, ◌∙◌, subst}
 use mathlib.Core.Bool.{Bool, true, false, cond, ◌||◌, false≢true}
@@ -10,8 +11,7 @@ use lib.Dec.{eqb, leb}
 use borrow.Author.Tests.{eq-eqb}
 use Rattle.units.specs.Folds.{over}
 use Rattle.table.specs.{declared.Task.Task, declared.Table.Table, Table.task_at, Table.limit}
-use Rattle.state.specs.{declared.State.State, Answers.Answer, declared.Section.Section, declared.Runner.Runner, declared.Report.Report, declared.Report.TheVariants.CarryOn, declared.Report.TheVariants.Done, declared.Report.TheVariants.Take, declared.Report.TheVariants.Give}
-use Rattle.state.specs.declared.Runner.TheVariants.{Nobody, Job}
+use Rattle.state.specs.{declared.State.State, Answers.Answer, declared.Section.Section, State.Runner, declared.Report.Report, declared.Report.TheVariants.CarryOn, declared.Report.TheVariants.Done, declared.Report.TheVariants.Take, declared.Report.TheVariants.Give}
 use Rattle.records.specs.declared.Event.{Event}
 use Rattle.records.specs.{Records.first_event, Contents.event}
 use Rattle.lines.specs.declared.Line.TheVariants as Line
@@ -92,11 +92,11 @@ module _ (t : Table) (passed : Passed written t) (now : ℕ) (small : now < 2 ^ 
   few_of task (x ∷ l) Give = inl refl
 
   few_by : (h : List Told) (r : Runner) (said : Report) → Few (of_report t h r said)
-  few_by h Nobody CarryOn = inl refl
-  few_by h Nobody Done = inr (inr refl)
-  few_by h Nobody (Take r) = inr (inr refl)
-  few_by h Nobody Give = inr (inr refl)
-  few_by h (Job k) said = few_of (task_at t k) (sections k (latest k h)) said
+  few_by h None CarryOn = inl refl
+  few_by h None Done = inr (inr refl)
+  few_by h None (Take r) = inr (inr refl)
+  few_by h None Give = inr (inr refl)
+  few_by h (Some k) said = few_of (task_at t k) (sections k (latest k h)) said
 
   shows : (calls : List Call) → standing (told calls) ≡ none → (e : Event) → Shows (step t (at calls) e).line
   unfolding step lines

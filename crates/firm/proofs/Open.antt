@@ -1,6 +1,7 @@
 -- What the promise leaves open. Assumes nothing.
 mod Blank
 mod Named
+use Rattle.std.specs.Prelude.{Some, None}
 use Prim.Native.Nat.{ℕ, ◌^◌, ◌<◌}
 use mathlib.Core.Path.{◌≡◌, refl, sym, ap, ◌∙◌, subst}
 use mathlib.Core.Bool.{false≢true}
@@ -10,9 +11,7 @@ use native.Mathlib.Decide.{ℕ_discrete}
 use Rattle.units.specs.Clock.{tick, after}
 use Rattle.table.specs.declared.Table.{Table}
 use Rattle.state.specs.declared.State.{State}
-use Rattle.state.specs.declared.Runner.{Runner}
-use Rattle.state.specs.declared.Runner.TheVariants.{Nobody, Job}
-use Rattle.state.specs.State.{empty, job_at}
+use Rattle.state.specs.State.{empty, job_at, Runner}
 use Rattle.state.specs.Answers.{Answer, bare}
 use Rattle.promise.specs.History.{Machine, Line, line_of, lines, state_after, Call, release, choose, report, answered, start, ticks_closed, standing, number_by, ending_by, job_by, half_by, runner_by}
 use Rattle.promise.specs.Promise.{Passed, Kept, Promise}
@@ -56,14 +55,14 @@ module _ (m n : Machine) (t : Table) (now : ℕ) (s r : State) (h g : List Line)
   -- both choices name one job, or nobody
   same_named : (answered m t s choose).number ≡ 0 → (answered n t r choose).number ≡ 0 → (p : Runner) → (answered m t s choose).runner ≡ p → (q : Runner) → (answered n t r choose).runner ≡ q
       → (answered m t s choose).runner ≡ (answered n t r choose).runner
-  same_named z y Nobody f Nobody f' = f ∙ sym f'
-  same_named z y Nobody f (Job l) f' =
+  same_named z y None f None f' = f ∙ sym f'
+  same_named z y None f (Some l) f' =
       absurd (false≢true (sym ((km.idles_alone z f).0 l) ∙ ap (λ (x : Named.View). x.there l) (Named.same_view t h g e) ∙ (Named.is_named n t now r g kn next-n y l f').there))
-  same_named z y (Job k) f Nobody f' =
+  same_named z y (Some k) f None f' =
       absurd (false≢true (sym ((kn.idles_alone y f').0 k) ∙ sym (ap (λ (x : Named.View). x.there k) (Named.same_view t h g e)) ∙ (Named.is_named m t now s h km next-m z k f).there))
-  same_named z y (Job k) f (Job l) f' =
+  same_named z y (Some k) f (Some l) f' =
       let mine = subst (λ (x : Named.View). Named.Named t x k) (Named.same_view t h g e) (Named.is_named m t now s h km next-m z k f) in
-      f ∙ ap Job (Named.one_runner t (Named.view_of t g) k l mine (Named.is_named n t now r g kn next-n y l f')) ∙ sym f'
+      f ∙ ap Some (Named.one_runner t (Named.view_of t g) k l mine (Named.is_named n t now r g kn next-n y l f')) ∙ sym f'
 
   taken : (call : Call) → (answered m t s call).number ≡ 0 → (answered n t r call).number ≡ 0 → Told (answered m t s call) (answered n t r call)
   taken (release k) z y = let p = answered m t s (release k) in let q = answered n t r (release k) in bares p.number q.number p.state q.state (km.released_bare k) (kn.released_bare k)

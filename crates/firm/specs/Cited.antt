@@ -1,5 +1,5 @@
 -- Laws that the documents cite and no proof needs, at their full type, for the same reason. What they speak of is of the specs alone.
-use Rattle.std.specs.Prelude.{ℕ, ◌*◌, ◌^◌, max, ◌≤◌, ◌<◌, length}
+use Rattle.std.specs.Prelude.{ℕ, ◌*◌, ◌^◌, max, ◌≤◌, ◌<◌, length, Some}
 use mathlib.Core.{Path.◌≡◌, List.List}
 use Rattle.units.specs.declared.Tick.{Tick}
 use Rattle.units.specs.Amounts.{up}
@@ -7,7 +7,6 @@ use Rattle.units.specs.Clock.{distance}
 use Rattle.table.specs.declared.Table.{Table}
 use Rattle.table.specs.Table.{task_at, ceiling}
 use Rattle.admission.specs.Admission.{verdict}
-use Rattle.state.specs.declared.Mark.TheVariants.{At}
 use Rattle.state.specs.declared.Place.{Place}
 use Rattle.state.specs.declared.State.{State}
 use Rattle.state.specs.declared.Report.{Report}
@@ -48,9 +47,9 @@ pub record Cited : Type 0 where
   pub report_refused : (t : Table) (s : State) (said : Report) → ((report t s said).number ≡ 0 → ⊥) → report t s said ≡ bare (report t s said).number s
   -- in a history a mark that stands is the last in order among itself and the holders behind any place
   pub mark_stays : (t : Table) → Passed written t → (now : ℕ) → now < 2 ^ 32 → (calls : List Call) (m : Place) (run : ℕ) → let s = state_after written t (start written t now) calls in
-      s.mark ≡ At m → max (old_mark s) (last_holder s run) ≡ old_mark s
+      s.mark ≡ Some m → max (old_mark s) (last_holder s run) ≡ old_mark s
   -- and so it is among itself, a runner that is not top, and the holders behind that
   pub mark_stays_blocked : (t : Table) → Passed written t → (now : ℕ) → now < 2 ^ 32 → (calls : List Call) (m : Place) → let s = state_after written t (start written t now) calls in
-      s.mark ≡ At m → top s < no_place → (runner t s ≡ top s → ⊥) → max (old_mark s) (max (runner t s) (last_holder s (runner t s))) ≡ old_mark s
+      s.mark ≡ Some m → top s < no_place → (runner t s ≡ top s → ⊥) → max (old_mark s) (max (runner t s) (last_holder s (runner t s))) ≡ old_mark s
   -- a listing fits in the output
   pub listing_fits : (file : List ℕ) → length (listing file) ≤ 131072

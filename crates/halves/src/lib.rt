@@ -15,8 +15,8 @@ pub fn runner_position(runner: Runner) -> usize
     ensures { result ≡ runner_position runner }
 {
     match runner {
-        Runner::Nobody => State::TASKS,
-        Runner::Job(p) => p as usize,
+        None => State::TASKS,
+        Some(p) => p as usize,
     }
 }
 
@@ -73,7 +73,7 @@ pub fn closed(state: State, position: usize, job: Job) -> State
         jobs,
         mark,
         half: Half::First,
-        runner: Runner::Nobody,
+        runner: None,
     }
 }
 

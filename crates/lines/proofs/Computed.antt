@@ -1,9 +1,9 @@
 -- Lines, computed. Assumes nothing.
+use Rattle.std.specs.Prelude.{Some, None}
 use Prim.Native.Nat.{ℕ}
 use mathlib.Core.Path.{◌≡◌, refl}
 use mathlib.Core.List.{List, [], ◌∷◌, ◌++◌}
 use Rattle.units.specs.Clock.{tick}
-use Rattle.state.specs.declared.Runner.TheVariants.{Nobody, Job}
 use Rattle.state.specs.declared.Mode.TheVariants.{Independent, Synchronization}
 use Rattle.lines.specs.declared.Line.{Line}
 use Rattle.lines.specs.declared.Line.TheVariants.{Table, Release, Run, Refused}
@@ -22,8 +22,8 @@ numbers = refl
 pub longest :
     texts (
     Release (tick 4294967295) 255 12
-    ∷ Run (tick 4294967295) (Job 15) Synchronization 64 2
-    ∷ Run (tick 1000000000) Nobody Independent 0 0
+    ∷ Run (tick 4294967295) (Some 15) Synchronization 64 2
+    ∷ Run (tick 1000000000) None Independent 0 0
     ∷ Refused (tick 4294967295) 16
     ∷ []
     )

@@ -1,11 +1,10 @@
 -- The lines of the listing, in ASCII.
-use Rattle.std.specs.Prelude.{ℕ, zero, suc, ◌+◌, ◌/◌, ◌%◌}
+use Rattle.std.specs.Prelude.{ℕ, zero, suc, ◌+◌, ◌/◌, ◌%◌, Some, None}
 use Prim.Native.Char.{code}
 use Prim.Native.String.{String, [] as empty, ◌∷◌ as ◌then◌}
 use mathlib.Core.{Bool.cond, List.List, List.[], List.◌∷◌, List.◌++◌}
 use lib.{Dec.ltb, Dec.leb, ListN.length, ListN.drop}
-use Rattle.state.specs.declared.Runner.{Runner}
-use Rattle.state.specs.declared.Runner.TheVariants.{Nobody, Job}
+use Rattle.state.specs.State.{Runner}
 use Rattle.state.specs.declared.Mode.{Mode}
 use Rattle.state.specs.declared.Mode.TheVariants.{Independent, Synchronization}
 use Rattle.lines.specs.declared.Line.{Line}
@@ -35,8 +34,8 @@ line_end = ascii "\n"
 
 -- "position or "-""
 unfoldable pub runner : Runner → List ℕ
-runner (Job p) = decimal p
-runner Nobody = ascii "-"
+runner (Some p) = decimal p
+runner None = ascii "-"
 
 -- "mode i or s"
 unfoldable pub mode : Mode → List ℕ

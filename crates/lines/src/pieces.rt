@@ -63,8 +63,8 @@ pub(crate) fn runner(out: &mut [u8], at: usize, who: Runner) -> usize
     ensures upper_bound { result ≤ at + 11 }
 {
     match who {
-        Runner::Nobody => text(out, at, b" -"),
-        Runner::Job(position) => field(out, at, position),
+        None => text(out, at, b" -"),
+        Some(position) => field(out, at, position),
     }
 }
 

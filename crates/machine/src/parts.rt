@@ -1,8 +1,7 @@
 // What the calls are made of: one job, one task.
-ghost use Rattle.std.specs.Prelude.{◌≡◌, ℕ, ◌<◌, set};
+ghost use Rattle.std.specs.Prelude.{◌≡◌, ℕ, ◌<◌, set, Some};
 ghost use Rattle.table.specs.Table.{task_at};
 ghost use Rattle.state.specs.State.{job_at};
-ghost use Rattle.state.specs.declared.Runner.TheVariants as Runs;
 ghost use Rattle.seen.specs.Seen.{told, job_of, reported_by};
 ghost use Rattle.machine.specs.Machine.{mid_tick, released};
 
@@ -15,10 +14,7 @@ use units::{Steps, Tick};
 pub(crate) fn mid_tick(half: Half) -> bool
     ensures { result ≡ mid_tick half }
 {
-    match half {
-        Half::First => false,
-        Half::Second => true,
-    }
+    half == Half::Second
 }
 
 // The job of a task that is released.
@@ -69,7 +65,7 @@ pub(crate) fn reported(
     held: u16,
     said: Report,
 ) -> Result<Outcome, Refusal>
-    requires { (p : ℕ) → turn.runner ≡ Runs.Job p → p < 16 }
+    requires { (p : ℕ) → turn.runner ≡ Some p → p < 16 }
     ensures { told (job_of state turn.runner) result ≡ reported_by table state turn.runner held turn.speed said }
 {
     let p = halves::runner_position(turn.runner);

@@ -1,13 +1,12 @@
 -- The wrong versions that our own ponds rule out, and what each gives in the same pond: something else than the list says.
-use Rattle.std.specs.Prelude.{ℕ, ◌+◌, ◌-◌}
+use Rattle.std.specs.Prelude.{ℕ, ◌+◌, ◌-◌, Some, None}
 use mathlib.Core.{Path.◌≡◌, Bool.Bool, Bool.not, Bool.◌&&◌, Bool.cond, List.List, List.[], List.◌∷◌, List.◌++◌}
 use lib.{ListN.set, Dec.ltb, Dec.leb, Dec.eqb}
 use Rattle.units.specs.{Clock.tick, Clock.after}
 use Rattle.verdict.specs.Verdict.{answer}
 use Rattle.admission.specs.Admission.{verdict}
 use Rattle.table.specs.{declared.Task.Task, declared.Table.Table, Table.task_at, Table.limit}
-use Rattle.state.specs.{declared.Job.Job, declared.State.State, Answers.Answer, declared.Mode.Mode, declared.Mode.TheVariants.Independent, declared.Mode.TheVariants.Synchronization, declared.Report.Report, declared.Report.TheVariants.CarryOn, declared.Report.TheVariants.Done, declared.Report.TheVariants.Take, declared.Report.TheVariants.Give, declared.Runner.Runner, Stack.section_at, Stack.stacked, State.job_at, Order.no_place, Order.holds, Order.held_resources, Answers.bare}
-use Rattle.state.specs.declared.Runner.TheVariants as Runs
+use Rattle.state.specs.{declared.Job.Job, declared.State.State, Answers.Answer, declared.Mode.Mode, declared.Mode.TheVariants.Independent, declared.Mode.TheVariants.Synchronization, declared.Report.Report, declared.Report.TheVariants.CarryOn, declared.Report.TheVariants.Done, declared.Report.TheVariants.Take, declared.Report.TheVariants.Give, State.Runner, Stack.section_at, Stack.stacked, State.job_at, Order.no_place, Order.holds, Order.held_resources, Answers.bare}
 use Rattle.choice.specs.{declared.Turn.Turn, Choice.top, Choice.turn}
 use Rattle.report.specs.{declared.Outcome.Outcome, Report.worked, Report.holding, Report.onward, Report.settled, Report.at_limit, Report.objection, Report.finished, Report.report_idle, Report.report_as}
 use Rattle.machine.specs.Machine.{released_at}
@@ -24,7 +23,7 @@ use Rattle.ponds.specs.Broken.{by_outcome, trimmed}
 
 -- the mark is kept at an idle tick
 abbrev pub mark_kept : Machine
-mark_kept = by_turn λ t s. cond (ltb (top s) no_place) (turn t s) (record { runner = Runs.Nobody; mark = s.mark; mode = Independent; speed = 0 })
+mark_kept = by_turn λ t s. cond (ltb (top s) no_place) (turn t s) (record { runner = None; mark = s.mark; mode = Independent; speed = 0 })
 
 -- the deadline is made by T
 abbrev pub due_after_t : ℕ → Task → Job → Job
@@ -52,8 +51,8 @@ always n task j held Give = objection task j held Give
 always n task j held (Take r) = cond (eqb (limit task r) 0) n (objection task j held (Take r))
 
 abbrev pub refusing : (Task → Job → ℕ → Report → ℕ) → Table → State → Turn → Runner → Report → Answer
-refusing asks t s u Runs.Nobody said = report_idle s u said
-refusing asks t s u (Runs.Job p) said =
+refusing asks t s u None said = report_idle s u said
+refusing asks t s u (Some p) said =
     let number = asks (task_at t p) (job_at s p) (held_resources s) said in
     let o = settled (task_at t p) said (worked (task_at t p) u.speed (job_at s p)) in
     cond (eqb number 0) (finished s (set s.jobs p o.job) u o.ending) (bare number s)
@@ -144,30 +143,30 @@ numbers m t events said = let before = choose ∷ calls events in let h = lines 
 
 pub record RuledOut : Type 0 where
   -- position 0 runs under the mark, faster than it need
-  pub idle : in_pond mark_kept p7 (mark_left ++ (Events.tick CarryOn ∷ release 0 ∷ [])) Done ≡ (4, 0, Runs.Job 0, Synchronization, 4, 1)
+  pub idle : in_pond mark_kept p7 (mark_left ++ (Events.tick CarryOn ∷ release 0 ∷ [])) Done ≡ (4, 0, Some 0, Synchronization, 4, 1)
   -- due two ticks late
   pub period : (job0 by_period p8 100 (release 0 ∷ [])).deadline.0 ≡ 107
   -- cut
-  pub give : in_pond cut_first two (release 1 ∷ Events.tick (Take 0) ∷ carry 3) Give ≡ (4, 0, Runs.Job 1, Independent, 1, 2)
+  pub give : in_pond cut_first two (release 1 ∷ Events.tick (Take 0) ∷ carry 3) Give ≡ (4, 0, Some 1, Independent, 1, 2)
   -- 13 of a fifth, and 14 of a first and of a second
-  pub thirteen : in_pond (take_refused 13) eight four_taken (Take 200) ≡ (4, 13, Runs.Nobody, Independent, 0, 0)
-  pub fourteen : (in_pond (take_refused 14) two (release 1 ∷ Events.tick (Take 0) ∷ []) (Take 8) ≡ (1, 14, Runs.Nobody, Independent, 0, 0))
-      × (in_pond (take_refused 14) two (release 1 ∷ []) (Take 8) ≡ (0, 14, Runs.Nobody, Independent, 0, 0))
-      × (in_pond (take_refused 14) two (release 1 ∷ []) (Take 1) ≡ (0, 14, Runs.Nobody, Independent, 0, 0))
+  pub thirteen : in_pond (take_refused 13) eight four_taken (Take 200) ≡ (4, 13, None, Independent, 0, 0)
+  pub fourteen : (in_pond (take_refused 14) two (release 1 ∷ Events.tick (Take 0) ∷ []) (Take 8) ≡ (1, 14, None, Independent, 0, 0))
+      × (in_pond (take_refused 14) two (release 1 ∷ []) (Take 8) ≡ (0, 14, None, Independent, 0, 0))
+      × (in_pond (take_refused 14) two (release 1 ∷ []) (Take 1) ≡ (0, 14, None, Independent, 0, 0))
   -- the pump takes its meter again; and a job a fifth resource
-  pub again : in_pond own_again pump (both_taken 0) (Take 0) ≡ (2, 0, Runs.Job 1, Independent, 1, 0)
+  pub again : in_pond own_again pump (both_taken 0) (Take 0) ≡ (2, 0, Some 1, Independent, 1, 0)
   pub again_number : numbers own_again pump (both_taken 0) (Take 0) ≡ (0, 14)
-  pub fifth : in_pond takes_a_fifth eight four_taken (Take 3) ≡ (4, 0, Runs.Job 0, Independent, 1, 0)
+  pub fifth : in_pond takes_a_fifth eight four_taken (Take 3) ≡ (4, 0, Some 0, Independent, 1, 0)
   pub fifth_passes : (answer (verdict eight)).0 ≡ 0
   pub fifth_number : numbers takes_a_fifth eight four_taken (Take 3) ≡ (0, 14)
   -- the meter is given back and the valve held: position 0 waits on, and the pump takes what it holds
-  pub reverse : in_pond in_order_of_taking pump (both_taken 0 ++ (release 0 ∷ Events.tick Give ∷ [])) (Take 1) ≡ (3, 14, Runs.Nobody, Independent, 0, 0)
+  pub reverse : in_pond in_order_of_taking pump (both_taken 0 ++ (release 0 ∷ Events.tick Give ∷ [])) (Take 1) ≡ (3, 14, None, Independent, 0, 0)
   pub reverse_held : outermost in_order_of_taking (both_taken 0 ++ (Events.tick Give ∷ [])) ≡ (1, 0)
   -- the valve is at its 3 steps, and the pump cut, a tick too soon: the give meets an idle tick
-  pub own_taking : in_pond from_the_outer_taking pump (both_taken 0 ++ carry 2) Give ≡ (4, 14, Runs.Nobody, Independent, 0, 0)
+  pub own_taking : in_pond from_the_outer_taking pump (both_taken 0 ++ carry 2) Give ≡ (4, 14, None, Independent, 0, 0)
   pub own_taking_ends : endings from_the_outer_taking (both_taken 0 ++ carry 1) CarryOn ≡ (2, 0)
   -- the pump goes on with its meter past 6 steps
-  pub each_rises : in_pond innermost_rises pump (both_taken 2 ++ carry 2) Give ≡ (6, 0, Runs.Job 1, Independent, 1, 0)
+  pub each_rises : in_pond innermost_rises pump (both_taken 2 ++ carry 2) Give ≡ (6, 0, Some 1, Independent, 1, 0)
   pub each_rises_ends : endings innermost_rises (both_taken 2 ++ carry 2) Give ≡ (0, 2)
   -- 14 of the 16 steps
   pub steps : (job0 trimmed (p1 240 4 5) 0 (release 0 ∷ Events.tick (Take 0) ∷ (carry 2 ++ (Events.tick Give ∷ [])))).used.0 ≡ 14

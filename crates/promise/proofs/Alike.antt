@@ -1,4 +1,5 @@
 -- Two machines that answer alike at a place, and after a choice there, keep the same at it. Assumes nothing.
+use Rattle.std.specs.Prelude.{Some}
 use Prim.Native.Nat.{ℕ, ◌<◌}
 use mathlib.Core.Path.{◌≡◌, sym, ap, ◌∙◌, subst}
 use mathlib.Core.Bool.{true, false}
@@ -8,7 +9,6 @@ use mathlib.Core.Option.{some}
 use Rattle.table.specs.declared.Table.{Table}
 use Rattle.table.specs.Table.{D, ceiling}
 use Rattle.state.specs.{declared.State.State, Answers.Answer, declared.Mode.TheVariants.Independent, declared.Mode.TheVariants.Synchronization, declared.Report.TheVariants.CarryOn, Answers.bare}
-use Rattle.state.specs.declared.Runner.TheVariants.{Job}
 use Rattle.promise.specs.History.{Machine, Call, release, choose, report, answered, Line, is_own, sections, IsOpen, has_started, latest, is_there, Ahead, standing, ending_by}
 use Rattle.promise.specs.Promise.{Below, FirstBlocked, Kept}
 use Rattle.promise.proofs.History.Tells.{line}
@@ -30,9 +30,9 @@ module _ {m n : Machine} {t : Table} {now : ℕ} {s : State} {h : List Line} (k 
     as_chosen = λ said. subst (λ (a : Answer). a.number ≡ 0 → (c : Answer) × (standing h ≡ some c) × (a.runner ≡ c.runner) × (a.mode ≡ c.mode) × (a.speed ≡ c.speed)) (sym (e (report said))) (k.as_chosen said);
     at_a_speed = λ said j. rw (e (report said)) (k.at_a_speed said j);
     over_a_holder = λ said i j p x. rw (e (report said)) (k.over_a_holder said i j p x);
-    in_order = λ i j. subst (λ (a : Answer). a.number ≡ 0 → a.runner ≡ Job i → is_there t j h ≡ true → Ahead t h j i
+    in_order = λ i j. subst (λ (a : Answer). a.number ≡ 0 → a.runner ≡ Some i → is_there t j h ≡ true → Ahead t h j i
         → (has_started j (latest j h) ≡ false) × (has_started i (latest i h) ≡ true) × (a.mode ≡ Synchronization) × FirstBlocked t h) (sym (e choose)) (k.in_order i j);
-    starts_free = λ i j p x. subst (λ (a : Answer). a.number ≡ 0 → a.runner ≡ Job i → has_started i (latest i h) ≡ false → (j ≡ i → ⊥) → is_there t j h ≡ true → IsOpen (sections j (latest j h)) p x → D t i < ceiling t x.resource) (sym (e choose)) (k.starts_free i j p x);
+    starts_free = λ i j p x. subst (λ (a : Answer). a.number ≡ 0 → a.runner ≡ Some i → has_started i (latest i h) ≡ false → (j ≡ i → ⊥) → is_there t j h ≡ true → IsOpen (sections j (latest j h)) p x → D t i < ceiling t x.resource) (sym (e choose)) (k.starts_free i j p x);
     until_a_take = λ none. subst (λ (a : Answer). a.number ≡ 0 → a.mode ≡ Independent) (sym (e choose)) (k.until_a_take none);
     idles_alone = rw (e choose) k.idles_alone;
     says_ending = λ call. subst (λ (a : Answer). a.ending ≡ ending_by t h (line call a) a.runner) (sym (e call)) (k.says_ending call);

@@ -1,13 +1,12 @@
 -- "Second half, the report: carry on, done, take a resource, or give back."
-use Rattle.std.specs.Prelude.{ℕ, ◌+◌, ◌-◌, min}
+use Rattle.std.specs.Prelude.{ℕ, ◌+◌, ◌-◌, min, Some, None}
 use mathlib.Core.{Bool.Bool, Bool.false, Bool.◌&&◌, Bool.◌||◌, Bool.cond, List.List, List.map}
 use lib.{ListN.set, Dec.ltb, Dec.leb, Dec.eqb}
 use Rattle.units.specs.{Amounts.ticks, Amounts.steps, Amounts.given, Clock.tick, Clock.after, Clock.distance, Folds.some, Sets.has}
 use Rattle.table.specs.{declared.Task.Task, declared.Table.Table, Table.task_at, Table.limit}
-use Rattle.state.specs.{declared.Job.Job, declared.State.State, declared.Ending.Ending, declared.Section.Section, declared.Stack.Stack, declared.Half.TheVariants.First, declared.Runner.Runner, declared.Report.Report, declared.Report.TheVariants.CarryOn, declared.Report.TheVariants.Done, declared.Report.TheVariants.Take, declared.Report.TheVariants.Give, Stack.section_at, Stack.stacked, Stack.nothing, Stack.any_on, State.job_at, Order.holds_any, Order.holds, Order.held_resources, Answers.Answer, Answers.ending_number, Answers.bare}
+use Rattle.state.specs.{declared.Job.Job, declared.State.State, declared.Ending.Ending, declared.Section.Section, declared.Stack.Stack, declared.Half.TheVariants.First, State.Runner, declared.Report.Report, declared.Report.TheVariants.CarryOn, declared.Report.TheVariants.Done, declared.Report.TheVariants.Take, declared.Report.TheVariants.Give, Stack.section_at, Stack.stacked, Stack.nothing, Stack.any_on, State.job_at, Order.holds_any, Order.holds, Order.held_resources, Answers.Answer, Answers.ending_number, Answers.bare}
 use Rattle.choice.specs.{declared.Turn.Turn, Choice.turn}
 use Rattle.report.specs.{declared.Outcome.Outcome}
-use Rattle.state.specs.declared.Runner.TheVariants as Runs
 use Rattle.state.specs.declared.Ending.TheVariants as Ends
 
 -- "its section steps rise by the speed, up to the limit"
@@ -71,7 +70,7 @@ waited j = record { pending = j.pending; started = j.started; deadline = j.deadl
 -- "The tick rises by one with roll-over"; "between ticks there is no job on the processor"
 abbrev pub closed : State → List Job → State
 closed s jobs =
-    record { tick = tick (after s.tick.0 1); jobs = map waited jobs; mark = s.mark; half = First; runner = Runs.Nobody }
+    record { tick = tick (after s.tick.0 1); jobs = map waited jobs; mark = s.mark; half = First; runner = None }
 
 -- 16: "a job still pending after this half would stand at its deadline"
 unfoldable pub late : State → Bool
@@ -100,8 +99,8 @@ report_idle s u Give = bare 14 s
 
 -- "Mode and speed are not kept; the choice rules give them again.": so with who runs
 abbrev pub report_as : Table → State → Turn → Runner → Report → Answer
-report_as t s u Runs.Nobody said = report_idle s u said
-report_as t s u (Runs.Job p) said = report_run t s u p said
+report_as t s u None said = report_idle s u said
+report_as t s u (Some p) said = report_run t s u p said
 
 unfoldable pub report : Table → State → Report → Answer
 report t s said = let u = turn t s in report_as t s u u.runner said

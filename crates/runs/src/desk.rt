@@ -55,16 +55,16 @@ pub(crate) fn with_run(table: Table, line: Line) -> Table {
 
 fn runner(value: u64) -> Runner {
     match value {
-        Line::NONE => Runner::Nobody,
-        _ => Runner::Job(byte(value)),
+        Line::NONE => None,
+        _ => Some(byte(value)),
     }
 }
 
 fn mark(value: u64, position: u64) -> Mark {
     let deadline = tick(value);
     match value {
-        Line::NONE => Mark::Absent,
-        _ => Mark::At(Place {
+        Line::NONE => None,
+        _ => Some(Place {
             deadline,
             position: byte(position),
         }),

@@ -38,8 +38,8 @@ fn call(rt: &impl Print, tick: u32, name: u64) {
 
 fn runner(rt: &impl Print, runner: Runner) {
     match runner {
-        Runner::Nobody => sign(rt, b'-'),
-        Runner::Job(position) => number(rt, position as u64),
+        None => sign(rt, b'-'),
+        Some(position) => number(rt, position as u64),
     }
 }
 
@@ -54,8 +54,8 @@ fn choice(rt: &impl Print, job: Runner, mode: Mode, speed: u8) {
 
 fn mark(rt: &impl Print, mark: Mark) {
     match mark {
-        Mark::Absent => sign(rt, b'-'),
-        Mark::At(place) => {
+        None => sign(rt, b'-'),
+        Some(place) => {
             number(rt, place.deadline.0 as u64);
             put(rt, b'@');
             let _ = rt.print(place.position as u64);

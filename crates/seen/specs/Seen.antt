@@ -1,15 +1,14 @@
 -- Ask 2: "The choice walks the tasks once for top and again for the first started job. [..] Do both in one pass, with fewer locals. No answer changes." What that pass gathers and the calls are handed of it: each number is one of document 01's, and proofs/Laws shows that the rules follow from the numbers.
-use Rattle.std.specs.Prelude.{ℕ, min, max, Ok, Err, Result}
+use Rattle.std.specs.Prelude.{ℕ, min, max, Some, None, Ok, Err, Result}
 use mathlib.Core.{Bool.Bool, Bool.true, Bool.false, Bool.not, Bool.◌&&◌, Bool.◌||◌, Bool.cond, List.List}
 use lib.{ListN.get_or, Dec.ltb, Dec.leb, Dec.eqb}
 use Rattle.units.specs.{declared.Ticks.Ticks, Amounts.ticks, Clock.distance, Folds.smallest, Folds.some, Sets.set, Sets.has, Sets.with}
 use Rattle.table.specs.{declared.Task.Task, declared.Table.Table, Table.task_at, Table.D}
-use Rattle.state.specs.{declared.Job.Job, declared.State.State, declared.Mark.Mark, declared.Half.Half, declared.Half.TheVariants.First, declared.Half.TheVariants.Second, declared.Runner.Runner, declared.Refusal.Refusal, declared.Ending.Ending, declared.Report.Report, declared.Report.TheVariants.CarryOn, declared.Report.TheVariants.Done, declared.Report.TheVariants.Take, declared.Report.TheVariants.Give, State.no_job, State.job_at, Order.place, Order.place_at, Order.no_place, Order.is_started, Order.holds_any, Order.first_in_order, Order.last_holder, Order.held_resources, Order.with_held, Answers.refusal_number}
+use Rattle.state.specs.{declared.Job.Job, declared.State.State, State.Mark, declared.Half.Half, declared.Half.TheVariants.First, declared.Half.TheVariants.Second, State.Runner, declared.Refusal.Refusal, declared.Ending.Ending, declared.Report.Report, declared.Report.TheVariants.CarryOn, declared.Report.TheVariants.Done, declared.Report.TheVariants.Take, declared.Report.TheVariants.Give, State.no_job, State.job_at, Order.place, Order.place_at, Order.no_place, Order.is_started, Order.holds_any, Order.first_in_order, Order.last_holder, Order.held_resources, Order.with_held, Answers.refusal_number}
 use Rattle.choice.specs.{declared.Turn.Turn, Choice.top, Choice.fastest, Choice.mark_place, Choice.mark_at, Choice.synchronized, Choice.no_holder_behind, Choice.idle, Choice.turn}
 use Rattle.report.specs.{declared.Outcome.Outcome, Report.worked, Report.settled, Report.objection}
 use Rattle.consistency.specs.Consistency.{positions_fit, mark_fits, half_fits, same_runner, same_mark}
 use Rattle.seen.specs.{declared.Seen.Seen, declared.Walked.Walked, declared.Examined.Examined}
-use Rattle.state.specs.declared.Runner.TheVariants as Runs
 use Rattle.state.specs.declared.Ending.TheVariants as Ends
 
 -- a pending job that stands a tick before its deadline, and the positions of all such
@@ -67,7 +66,7 @@ rules_by now mark x run task v =
 
 -- the clause of the half, by the turn, and by whether its runner is started
 abbrev pub half_fits_by : Half → Runner → Mark → Bool → Turn → Bool
-half_fits_by First on old begun u = same_runner Runs.Nobody on
+half_fits_by First on old begun u = same_runner None on
 half_fits_by Second on old begun u = same_runner u.runner on && (same_mark u.mark old && begun)
 
 -- all that consistency asks but that the table passes
@@ -82,8 +81,8 @@ examined t s =
 
 -- the runner's position; 16 where nobody runs
 abbrev pub runner_position : Runner → ℕ
-runner_position Runs.Nobody = 16
-runner_position (Runs.Job p) = p
+runner_position None = 16
+runner_position (Some p) = p
 
 -- the number of a report, 0 where it is taken; then the job after its tick, and how it ended
 pub record Reported : Type 0 where
@@ -115,12 +114,12 @@ reported_idle said = record { number = idle_number said; job = no_job; ending = 
 
 -- the job that ran, if one did
 abbrev pub job_of : State → Runner → Job
-job_of s Runs.Nobody = no_job
-job_of s (Runs.Job p) = job_at s p
+job_of s None = no_job
+job_of s (Some p) = job_at s p
 
 abbrev pub reported_by : Table → State → Runner → ℕ → ℕ → Report → Reported
-reported_by t s Runs.Nobody held v said = reported_idle said
-reported_by t s (Runs.Job p) held v said = reported (task_at t p) (job_at s p) held v said
+reported_by t s None held v said = reported_idle said
+reported_by t s (Some p) held v said = reported (task_at t p) (job_at s p) held v said
 
 -- 16, by who is due: some job that is due is still there after the tick, where the one at p has ended or has not
 unfoldable pub late_by : ℕ → ℕ → Bool → Bool

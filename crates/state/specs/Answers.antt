@@ -1,6 +1,6 @@
 -- What a call answers.
-use Rattle.std.specs.Prelude.{ℕ, Ok, Err, Result}
-use Rattle.state.specs.{declared.State.State, declared.Success.Success, declared.Refusal.Refusal, declared.Ending.Ending, declared.Runner.Runner, declared.Runner.TheVariants.Nobody, declared.Mode.Mode, declared.Mode.TheVariants.Independent}
+use Rattle.std.specs.Prelude.{ℕ, None, Ok, Err, Result}
+use Rattle.state.specs.{declared.State.State, declared.Success.Success, declared.Refusal.Refusal, declared.Ending.Ending, State.Runner, declared.Mode.Mode, declared.Mode.TheVariants.Independent}
 use Rattle.state.specs.declared.Refusal.TheVariants.{Inconsistent, NotInTable, WrongHalf, TooEarly, MayNotTake, NotNow, HeldByAnother, Late}
 use Rattle.state.specs.declared.Ending.TheVariants.{GoesOn, Done, Cut}
 
@@ -33,7 +33,7 @@ ending_number Cut = 2
 
 -- "Every refusal leaves the state unchanged and returns no job, independent, speed 0, ending 0.": an answer with a number and a state alone
 abbrev pub bare : ℕ → State → Answer
-bare n s = record { number = n; state = s; runner = Nobody; mode = Independent; speed = 0; ending = 0 }
+bare n s = record { number = n; state = s; runner = None; mode = Independent; speed = 0; ending = 0 }
 
 -- "0 is success."
 abbrev pub number_told : {A : Type 0} → Result A Refusal → ℕ

@@ -13,21 +13,21 @@ use verdict::Verdict;
 mod holders;
 
 // A resource that is held, and the steps since it was taken.
-#[derive(Clone, Copy)]
+#[derive(Clone, Copy, Debug, PartialEq, Eq)]
 pub struct Section {
     pub resource: u8,
     pub steps: Steps,
 }
 
 // The sections that a job is in, the outermost first: of four places those below the depth are in use.
-#[derive(Clone, Copy)]
+#[derive(Clone, Copy, Debug, PartialEq, Eq)]
 pub struct Stack {
     pub depth: u8,
     pub sections: [Section; 4],
 }
 
 // The job of one task. What is not in use is 0.
-#[derive(Clone, Copy)]
+#[derive(Clone, Copy, Debug, PartialEq, Eq)]
 pub struct Job {
     pub pending: bool,
     pub started: bool,
@@ -37,31 +37,24 @@ pub struct Job {
     pub wait: Ticks,
 }
 
-#[derive(Clone, Copy)]
+#[derive(Clone, Copy, Debug, PartialEq, Eq)]
 pub struct Place {
     pub deadline: Tick,
     pub position: u8,
 }
 
-#[derive(Clone, Copy)]
-pub enum Mark {
-    Absent,
-    At(Place),
-}
+// None: no mark.
+pub type Mark = Option<Place>;
 
 // The half of a tick that comes next: the first between ticks, the second in mid-tick.
-#[derive(Clone, Copy)]
+#[derive(Clone, Copy, Debug, PartialEq, Eq)]
 pub enum Half {
     First,
     Second,
 }
 
-// The job on the processor.
-#[derive(Clone, Copy)]
-pub enum Runner {
-    Nobody,
-    Job(u8),
-}
+// The position of the job on the processor; None: nobody.
+pub type Runner = Option<u8>;
 
 #[derive(Clone, Copy)]
 pub struct State {
@@ -72,14 +65,14 @@ pub struct State {
     pub runner: Runner,
 }
 
-#[derive(Clone, Copy)]
+#[derive(Clone, Copy, Debug, PartialEq, Eq)]
 pub enum Mode {
     Independent,
     Synchronization,
 }
 
 // What the runner's job says at the end of its tick.
-#[derive(Clone, Copy)]
+#[derive(Clone, Copy, Debug, PartialEq, Eq)]
 pub enum Report {
     CarryOn,
     Done,
@@ -189,9 +182,9 @@ impl State {
         let state = State {
             tick: now,
             jobs,
-            mark: Mark::Absent,
+            mark: None,
             half: Half::First,
-            runner: Runner::Nobody,
+            runner: None,
         };
         Start { verdict, state }
     }
@@ -222,7 +215,7 @@ impl Success {
     {
         Success {
             state,
-            runner: Runner::Nobody,
+            runner: None,
             mode: Mode::Independent,
             speed: 0,
             ending: Ending::GoesOn,

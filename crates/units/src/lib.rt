@@ -8,15 +8,15 @@ mod clock;
 pub mod sets;
 
 // How many ticks. A tick count is never added to a step count.
-#[derive(Clone, Copy)]
+#[derive(Clone, Copy, Debug, PartialEq, Eq)]
 pub struct Ticks(pub u16);
 
 // A value of the tick counter: now, or a deadline.
-#[derive(Clone, Copy)]
+#[derive(Clone, Copy, Debug, PartialEq, Eq)]
 pub struct Tick(pub u32);
 
 // How many steps of work.
-#[derive(Clone, Copy)]
+#[derive(Clone, Copy, Debug, PartialEq, Eq)]
 pub struct Steps(pub u16);
 
 impl Steps {

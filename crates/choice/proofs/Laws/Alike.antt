@@ -1,4 +1,5 @@
 -- "Entries past the task count are not read": two tables that differ there alone give a state the same choice, where no job is pending past the count. Assumes nothing.
+use Rattle.std.specs.Prelude.{Some}
 use Prim.Native.Nat.{ℕ, min, max, ◌<◌}
 use mathlib.Core.Path.{◌≡◌, refl, sym, ap, ◌∙◌}
 use mathlib.Core.Logic.{⊎_elim}
@@ -16,7 +17,6 @@ use Rattle.table.specs.Table.{D, S, ceilings}
 use Rattle.table.proofs.Laws.Alike.{Alike, ceiling-same}
 use Rattle.state.specs.declared.Job.{Job}
 use Rattle.state.specs.declared.State.{State}
-use Rattle.state.specs.declared.Runner.TheVariants as Runs
 use Rattle.state.specs.State.{job_at}
 use Rattle.state.specs.Order.{position_of, no_place, is_pending, is_started, first_in_order}
 use Rattle.state.proofs.Laws.Order.{first_found, first_bound, place-position}
@@ -55,7 +55,7 @@ module _ (t : Table) (s : State) (inside : Inside t s) where
       go true h = rw (runner-blocked t s h) (first_within is_started (λ j h. (both j.pending j.started h).0) (some-task l))
       go false h = rw (runner_free t s h) (top_within l)
 
-  pub turn_within : (p : ℕ) → (turn t s).runner ≡ Runs.Job p → p < t.count
+  pub turn_within : (p : ℕ) → (turn t s).runner ≡ Some p → p < t.count
   turn_within p e = go (dec_lt (top s) no_place)
     where
       go : Dec (top s < no_place) → p < t.count

@@ -1,4 +1,5 @@
 -- The five rules, one equation each, and the mark that they leave. Assumes nothing.
+use Rattle.std.specs.Prelude.{Some, None}
 use Prim.Native.Nat.{ℕ, ◌/◌, ◌^◌, ◌≤◌, ◌<◌}
 use mathlib.Core.Path.{◌≡◌, refl, ap, ◌∙◌}
 use native.Mathlib.Omega.{arith}
@@ -8,10 +9,8 @@ use Rattle.units.proofs.Laws.Clock.{distance-after}
 use Rattle.table.specs.declared.Table.{Table}
 use Rattle.table.specs.Table.{task_at}
 use Rattle.state.specs.declared.State.{State}
-use Rattle.state.specs.declared.Mark.{Mark}
-use Rattle.state.specs.declared.Mark.TheVariants.{Absent, At}
+use Rattle.state.specs.State.{Mark}
 use Rattle.state.specs.declared.Place.{Place}
-use Rattle.state.specs.declared.Runner.TheVariants as Runs
 use Rattle.state.specs.Order.{place, position_of, no_place, last_holder}
 use Rattle.choice.specs.declared.Turn.{Turn}
 use Rattle.choice.specs.Choice.{top, mark_place, mark_at, alone, rule1, rule2, rule4, no_holder_behind, rules}
@@ -43,52 +42,52 @@ module _ (t : Table) (s : State) (run : ℕ) where
   unfolding rules
   others h l = simp (eq-eqb _ _ h, le-ltb _ _ l)
 
-  pub rule_3 : (m : Place) → run ≡ top s → last ≤ 0 → s.mark ≡ At m → old ≤ run → rules t s run ≡ alone run (task_at t (position_of run))
+  pub rule_3 : (m : Place) → run ≡ top s → last ≤ 0 → s.mark ≡ Some m → old ≤ run → rules t s run ≡ alone run (task_at t (position_of run))
   rule_3 m h l e b = others h l ∙ past s.mark e b
     where
-      past : (n : Mark) → n ≡ At m → mark_place now n ≤ run → no_holder_behind n (mark_place now n) run (task_at t (position_of run)) ≡ alone run (task_at t (position_of run))
+      past : (n : Mark) → n ≡ Some m → mark_place now n ≤ run → no_holder_behind n (mark_place now n) run (task_at t (position_of run)) ≡ alone run (task_at t (position_of run))
       past n e b = rw e (simp (le-leb _ _ (rw e at b)))
 
-  pub rule_4 : (m : Place) → run ≡ top s → last ≤ 0 → s.mark ≡ At m → run < old → rules t s run ≡ rule4 run m (task_at t (position_of run))
+  pub rule_4 : (m : Place) → run ≡ top s → last ≤ 0 → s.mark ≡ Some m → run < old → rules t s run ≡ rule4 run m (task_at t (position_of run))
   rule_4 m h l e b = others h l ∙ ahead s.mark e b
     where
-      ahead : (n : Mark) → n ≡ At m → run < mark_place now n → no_holder_behind n (mark_place now n) run (task_at t (position_of run)) ≡ rule4 run m (task_at t (position_of run))
+      ahead : (n : Mark) → n ≡ Some m → run < mark_place now n → no_holder_behind n (mark_place now n) run (task_at t (position_of run)) ≡ rule4 run m (task_at t (position_of run))
       ahead n e b = rw e (simp (lt-leb _ _ (rw e at b)))
 
-  pub rule_5 : run ≡ top s → last ≤ 0 → s.mark ≡ Absent → rules t s run ≡ alone run (task_at t (position_of run))
+  pub rule_5 : run ≡ top s → last ≤ 0 → s.mark ≡ None → rules t s run ≡ alone run (task_at t (position_of run))
   rule_5 h l e = others h l ∙ none s.mark e
     where
-      none : (n : Mark) → n ≡ Absent → no_holder_behind n (mark_place now n) run (task_at t (position_of run)) ≡ alone run (task_at t (position_of run))
+      none : (n : Mark) → n ≡ None → no_holder_behind n (mark_place now n) run (task_at t (position_of run)) ≡ alone run (task_at t (position_of run))
       none n e = rw e
 
   -- first that fits
   pub data Fits : Type 0 where
     one : (run ≡ top s → ⊥) → Fits
     two : run ≡ top s → 0 < last → Fits
-    three : (m : Place) → run ≡ top s → last ≤ 0 → s.mark ≡ At m → old ≤ run → Fits
-    four : (m : Place) → run ≡ top s → last ≤ 0 → s.mark ≡ At m → run < old → Fits
-    five : run ≡ top s → last ≤ 0 → s.mark ≡ Absent → Fits
+    three : (m : Place) → run ≡ top s → last ≤ 0 → s.mark ≡ Some m → old ≤ run → Fits
+    four : (m : Place) → run ≡ top s → last ≤ 0 → s.mark ≡ Some m → run < old → Fits
+    five : run ≡ top s → last ≤ 0 → s.mark ≡ None → Fits
 
   pub fits : Fits
   fits = go (ℕ_discrete run (top s)) (dec_le last 0) s.mark refl
     where
-      marked : (m : Place) → run ≡ top s → last ≤ 0 → s.mark ≡ At m → Dec (old ≤ run) → Fits
+      marked : (m : Place) → run ≡ top s → last ≤ 0 → s.mark ≡ Some m → Dec (old ≤ run) → Fits
       marked m h l e (yes b) = three m h l e b
       marked m h l e (no b) = four m h l e (omega arith)
 
       go : Dec (run ≡ top s) → Dec (last ≤ 0) → (n : Mark) → s.mark ≡ n → Fits
       go (no h) d n e = one h
       go (yes h) (no l) n e = two h (omega arith)
-      go (yes h) (yes l) Absent e = five h l e
-      go (yes h) (yes l) (At m) e = marked m h l e (dec_le old run)
+      go (yes h) (yes l) None e = five h l e
+      go (yes h) (yes l) (Some m) e = marked m h l e (dec_le old run)
 
-  pub rules-runner : (rules t s run).runner ≡ Runs.Job (position_of run)
+  pub rules-runner : (rules t s run).runner ≡ Some (position_of run)
   rules-runner = go fits
     where
-      of : {u : Turn} → rules t s run ≡ u → u.runner ≡ Runs.Job (position_of run) → (rules t s run).runner ≡ Runs.Job (position_of run)
+      of : {u : Turn} → rules t s run ≡ u → u.runner ≡ Some (position_of run) → (rules t s run).runner ≡ Some (position_of run)
       of e h = ap (λ (u : Turn). u.runner) e ∙ h
 
-      go : Fits → (rules t s run).runner ≡ Runs.Job (position_of run)
+      go : Fits → (rules t s run).runner ≡ Some (position_of run)
       go (one h) = of (rule_1 h) refl
       go (two h l) = of (rule_2 h l) refl
       go (three m h l e b) = of (rule_3 m h l e b) refl

@@ -1,4 +1,5 @@
 -- Who runs. Assumes nothing.
+use Rattle.std.specs.Prelude.{Some, None}
 use Prim.Native.Nat.{ℕ, ◌≤◌, ◌<◌}
 use mathlib.Core.Path.{◌≡◌, refl, sym, ap, ◌∙◌}
 use mathlib.Core.Bool.{Bool, true, false, false≢true}
@@ -7,8 +8,7 @@ use native.Mathlib.Omega.{arith}
 use borrow.Author.Tests.{lt-ltb, le-ltb}
 use Rattle.table.specs.declared.Table.{Table}
 use Rattle.state.specs.declared.State.{State}
-use Rattle.state.specs.declared.Runner.{Runner}
-use Rattle.state.specs.declared.Runner.TheVariants as Runs
+use Rattle.state.specs.State.{Runner}
 use Rattle.state.specs.Order.{position_of, no_place, first_in_order, is_pending, is_started}
 use Rattle.state.proofs.Laws.Order.{first-position}
 use Rattle.choice.specs.declared.Turn.{Turn}
@@ -17,17 +17,17 @@ use Rattle.choice.proofs.Laws.Rules.{rules-runner}
 
 -- nobody is no job, and a job has one position
 abbrev position : Runner → ℕ
-position Runs.Nobody = 0
-position (Runs.Job p) = p
+position None = 0
+position (Some p) = p
 
 abbrev someone : Runner → Bool
-someone Runs.Nobody = false
-someone (Runs.Job p) = true
+someone None = false
+someone (Some p) = true
 
-pub named : {p q : ℕ} → Runs.Job p ≡ Runs.Job q → p ≡ q
+pub named : {p q : ℕ} → Some p ≡ Some q → p ≡ q
 named e = ap position e
 
-pub nobody : {p : ℕ} → Runs.Nobody ≡ Runs.Job p → ⊥
+pub nobody : {p : ℕ} → None ≡ Some p → ⊥
 nobody e = false≢true (ap someone e)
 
 module _ (t : Table) (s : State) where
@@ -55,7 +55,7 @@ module _ (t : Table) (s : State) where
   turn-idle l = simp (le-ltb _ _ l)
 
   -- where somebody runs, there is a top
-  pub runs-top : (p : ℕ) → (turn t s).runner ≡ Runs.Job p → top s < no_place
+  pub runs-top : (p : ℕ) → (turn t s).runner ≡ Some p → top s < no_place
   runs-top p e = go (dec_lt (top s) no_place)
     where
       go : Dec (top s < no_place) → top s < no_place
@@ -63,5 +63,5 @@ module _ (t : Table) (s : State) where
       go (no l) = absurd (nobody (sym (ap (λ (u : Turn). u.runner) (turn-idle (omega arith))) ∙ e))
 
   -- whoever runs is at a position below 16
-  pub runner_below : (p : ℕ) → (turn t s).runner ≡ Runs.Job p → p < 16
+  pub runner_below : (p : ℕ) → (turn t s).runner ≡ Some p → p < 16
   runner_below p e = rw (named (sym e ∙ ap (λ (u : Turn). u.runner) (turn-runs (runs-top p e)) ∙ rules-runner t s (runner t s))) runner-position

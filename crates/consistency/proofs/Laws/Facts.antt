@@ -1,4 +1,5 @@
 -- A consistent state, as plain facts: what the crates above use in place of the test. Assumes nothing.
+use Rattle.std.specs.Prelude.{Some, None}
 use Prim.Native.Nat.{ℕ, ◌≤◌, ◌<◌, zero-le}
 use mathlib.Core.Path.{◌≡◌, refl, sym, ap, ◌∙◌}
 use mathlib.Core.Bool.{Bool, true, false, false≢true}
@@ -17,13 +18,9 @@ use Rattle.admission.proofs.Laws.Admitted.{admitted}
 use Rattle.state.specs.declared.Job.{Job}
 use Rattle.state.specs.declared.State.{State}
 use Rattle.state.specs.declared.Place.{Place}
-use Rattle.state.specs.declared.Mark.{Mark}
-use Rattle.state.specs.declared.Mark.TheVariants.{Absent, At}
 use Rattle.state.specs.declared.Half.{Half}
 use Rattle.state.specs.declared.Half.TheVariants.{First, Second}
-use Rattle.state.specs.declared.Runner.{Runner}
-use Rattle.state.specs.declared.Runner.TheVariants as Runs
-use Rattle.state.specs.State.{job_at, no_job, empty, passes}
+use Rattle.state.specs.State.{job_at, no_job, empty, passes, Mark, Runner}
 use Rattle.state.specs.Order.{holds_any}
 use Rattle.state.proofs.Laws.Fresh.{empty_job}
 use Rattle.state.proofs.Laws.Stacks.{on_any}
@@ -43,56 +40,56 @@ pub record MarkFits (count now : ℕ) (m : Place) : Type 0 where
 pub record Unchanged (t : Table) (s : State) : Type 0 where
   pub runner : (turn t s).runner ≡ s.runner
   pub mark : (turn t s).mark ≡ s.mark
-  pub begun : (p : ℕ) → s.runner ≡ Runs.Job p → (job_at s p).started ≡ true
+  pub begun : (p : ℕ) → s.runner ≡ Some p → (job_at s p).started ≡ true
 
 pub record Consistent (t : Table) (s : State) : Type 0 where
   pub passes : (answer (verdict t)).0 ≡ 0
   pub jobs : (k : ℕ) → k < t.count → JobFits (task_at t k) s.tick.0 (job_at s k)
   pub past : (k : ℕ) → t.count ≤ k → k < 16 → Unused (job_at s k)
   pub once : Once s 16
-  pub mark : (m : Place) → s.mark ≡ At m → MarkFits t.count s.tick.0 m
-  pub first : s.half ≡ First → s.runner ≡ Runs.Nobody
+  pub mark : (m : Place) → s.mark ≡ Some m → MarkFits t.count s.tick.0 m
+  pub first : s.half ≡ First → s.runner ≡ None
   pub second : s.half ≡ Second → Unchanged t s
 
 -- ---- the mark
 
-mark_tells : (count now : ℕ) (k : Mark) → mark_fits count now k ≡ true → (m : Place) → k ≡ At m → MarkFits count now m
+mark_tells : (count now : ℕ) (k : Mark) → mark_fits count now k ≡ true → (m : Place) → k ≡ Some m → MarkFits count now m
 mark_tells count now k h m e = let w = sym (ap (mark_fits count now) e) ∙ h in search parts
 
-pub mark_holds : (count now : ℕ) (k : Mark) → ((m : Place) → k ≡ At m → MarkFits count now m) → mark_fits count now k ≡ true
-mark_holds count now Absent f = refl
-mark_holds count now (At m) f = let w = f m refl in search tests
+pub mark_holds : (count now : ℕ) (k : Mark) → ((m : Place) → k ≡ Some m → MarkFits count now m) → mark_fits count now k ≡ true
+mark_holds count now None f = refl
+mark_holds count now (Some m) f = let w = f m refl in search tests
 
 -- ---- the middle of a tick
 
 pub same-runner_tells : (a b : Runner) → same_runner a b ≡ true → a ≡ b
-same-runner_tells Runs.Nobody Runs.Nobody h = refl
-same-runner_tells Runs.Nobody (Runs.Job q) h = absurd (false≢true h)
-same-runner_tells (Runs.Job p) Runs.Nobody h = absurd (false≢true h)
-same-runner_tells (Runs.Job p) (Runs.Job q) h = ap Runs.Job (eqb-true p q h)
+same-runner_tells None None h = refl
+same-runner_tells None (Some q) h = absurd (false≢true h)
+same-runner_tells (Some p) None h = absurd (false≢true h)
+same-runner_tells (Some p) (Some q) h = ap Some (eqb-true p q h)
 
 same-runner : (a : Runner) → same_runner a a ≡ true
-same-runner Runs.Nobody = refl
-same-runner (Runs.Job p) = eq-eqb p p refl
+same-runner None = refl
+same-runner (Some p) = eq-eqb p p refl
 
 abbrev at : ℕ → ℕ → Mark
-at d p = At (record { deadline = record { 0 = d }; position = p })
+at d p = Some (record { deadline = record { 0 = d }; position = p })
 
 pub same_mark_tells : (a b : Mark) → same_mark a b ≡ true → a ≡ b
-same_mark_tells Absent Absent h = refl
-same_mark_tells Absent (At m) h = absurd (false≢true h)
-same_mark_tells (At l) Absent h = absurd (false≢true h)
-same_mark_tells (At l) (At m) h =
+same_mark_tells None None h = refl
+same_mark_tells None (Some m) h = absurd (false≢true h)
+same_mark_tells (Some l) None h = absurd (false≢true h)
+same_mark_tells (Some l) (Some m) h =
     let w = both _ _ h in
     ap (λ (d : ℕ). at d l.position) (eqb-true _ _ w.0) ∙ ap (λ (p : ℕ). at m.deadline.0 p) (eqb-true _ _ w.1)
 
 same-mark : (a : Mark) → same_mark a a ≡ true
-same-mark Absent = refl
-same-mark (At m) = simp (eq-eqb m.deadline.0 m.deadline.0 refl, eq-eqb m.position m.position refl)
+same-mark None = refl
+same-mark (Some m) = simp (eq-eqb m.deadline.0 m.deadline.0 refl, eq-eqb m.position m.position refl)
 
-begun-holds : (s : State) (r : Runner) → ((p : ℕ) → r ≡ Runs.Job p → (job_at s p).started ≡ true) → has_begun s r ≡ true
-begun-holds s Runs.Nobody f = refl
-begun-holds s (Runs.Job p) f = f p refl
+begun-holds : (s : State) (r : Runner) → ((p : ℕ) → r ≡ Some p → (job_at s p).started ≡ true) → has_begun s r ≡ true
+begun-holds s None f = refl
+begun-holds s (Some p) f = f p refl
 
 module _ (t : Table) (s : State) where
   unchanged_tells : unchanged s (turn t s) ≡ true → Unchanged t s
@@ -116,14 +113,14 @@ module _ (t : Table) (s : State) where
         begun-holds s (turn t s).runner (λ p e. h.begun p (sym h.runner ∙ e)),
       )
 
-  half_tells : half_fits t s s.half ≡ true → (s.half ≡ First → s.runner ≡ Runs.Nobody) × (s.half ≡ Second → Unchanged t s)
+  half_tells : half_fits t s s.half ≡ true → (s.half ≡ First → s.runner ≡ None) × (s.half ≡ Second → Unchanged t s)
   half_tells h = (
-    λ e. sym (same-runner_tells Runs.Nobody s.runner (sym (ap (half_fits t s) e) ∙ h)),
+    λ e. sym (same-runner_tells None s.runner (sym (ap (half_fits t s) e) ∙ h)),
     λ e. unchanged_tells (sym (ap (half_fits t s) e) ∙ h),
   )
 
-  half-holds : (h : Half) → (h ≡ First → s.runner ≡ Runs.Nobody) → (h ≡ Second → Unchanged t s) → half_fits t s h ≡ true
-  half-holds First f g = ap (same_runner Runs.Nobody) (f refl)
+  half-holds : (h : Half) → (h ≡ First → s.runner ≡ None) → (h ≡ Second → Unchanged t s) → half_fits t s h ≡ true
+  half-holds First f g = ap (same_runner None) (f refl)
   half-holds Second f g = unchanged-holds (g refl)
 
   -- ---- both ways
@@ -178,8 +175,8 @@ is_first First = true
 is_first Second = false
 
 abbrev is_absent : Mark → Bool
-is_absent Absent = true
-is_absent (At m) = false
+is_absent None = true
+is_absent (Some m) = false
 
 pub fresh-consistent : (t : Table) (now : Tick) → (answer (verdict t)).0 ≡ 0 → consistent t (empty now) ≡ true
 unfolding empty

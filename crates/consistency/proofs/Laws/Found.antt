@@ -16,13 +16,8 @@ use Rattle.admission.specs.Admission.{verdict}
 use Rattle.state.specs.declared.Job.{Job}
 use Rattle.state.specs.declared.Stack.{Stack}
 use Rattle.state.specs.Stack.{section_at}
-use Rattle.state.specs.declared.Place.{Place}
-use Rattle.state.specs.declared.Mark.{Mark}
-use Rattle.state.specs.declared.Mark.TheVariants.{At}
-use Rattle.state.specs.declared.Runner.{Runner}
-use Rattle.state.specs.declared.Runner.TheVariants as Runs
 use Rattle.state.specs.State.{passes}
-use Rattle.consistency.specs.Consistency.{pending_fits, section_fits, mark_fits, same_runner, same_mark}
+use Rattle.consistency.specs.Consistency.{pending_fits, section_fits}
 
 pub found_passes : (t : Table) {v : Verdict} {n : ℕ} {r : Bool} → v ≡ verdict t → n ≡ (answer v).0 → eqb n 0 ≡ r → passes t ≡ r
 unfolding passes
@@ -39,20 +34,3 @@ pub found_section : (task : Task) (h : Stack) (i : ℕ) {l : Steps} {r : Bool} �
     → r ≡ (ltb 0 l.0 && (ltb (section_at h i).steps.0 l.0 && not (some (λ m. eqb (section_at h m).resource (section_at h i).resource) i)))
     → r ≡ section_fits task h i
 found_section task h i e g = rw e at g
-
--- ---- the mark
-
-module _ (count now : ℕ) {k : Mark} {m : Place} (e : k ≡ At m) {r : Bool} where
-  pub found_mark : r ≡ (ltb m.position count && leb (distance now m.deadline.0) 65535) → r ≡ mark_fits count now k
-  found_mark h = rw e h
-
-  pub found_distance : {d : ℕ} → d ≡ distance now m.deadline.0 → r ≡ (ltb m.position count && leb d 65535) → r ≡ mark_fits count now k
-  found_distance f h = found_mark (rw (← f) h)
-
--- ---- the middle of a tick
-
-pub found_runners : {a b : Runner} {p q : ℕ} {r : Bool} → a ≡ Runs.Job p → b ≡ Runs.Job q → r ≡ eqb p q → r ≡ same_runner a b
-found_runners e f h = rw (e, f) h
-
-pub found_marks : {a b : Mark} {l m : Place} {r : Bool} → a ≡ At l → b ≡ At m → r ≡ (eqb l.deadline.0 m.deadline.0 && eqb l.position m.position) → r ≡ same_mark a b
-found_marks e f h = rw (e, f) h

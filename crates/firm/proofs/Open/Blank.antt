@@ -1,4 +1,5 @@
 -- What is read off the lines is read off their calls, numbers, runners, modes and speeds: with the states and the endings left blank it is the same. Assumes nothing.
+use Rattle.std.specs.Prelude.{Some, None}
 use Prim.Native.Nat.{ℕ, ◌+◌, ◌-◌, min}
 use mathlib.Core.Path.{◌≡◌, refl, ap, ◌∙◌}
 use mathlib.Core.Bool.{Bool, true, false, cond, ◌&&◌, ◌||◌, not}
@@ -14,9 +15,7 @@ use Rattle.state.specs.declared.Section.{Section}
 use Rattle.state.specs.Stack.{nothing}
 use Rattle.state.specs.declared.Report.{Report}
 use Rattle.state.specs.declared.Report.TheVariants.{CarryOn, Done, Take, Give}
-use Rattle.state.specs.declared.Runner.{Runner}
-use Rattle.state.specs.declared.Runner.TheVariants as Runs
-use Rattle.state.specs.State.{empty}
+use Rattle.state.specs.State.{empty, Runner}
 use Rattle.promise.specs.History.{Line, Call, release, choose, report, is_tick, is_own, is_start, takes_on, opens, longer, after_call, is_last, ticks_closed, steps_given, sections, has_started, ends_at, latest, is_there, ticks_left, wait, standing, of_report, objection, number_by, how_ended, ending_by, job_by, stack_of, half_by, runner_by}
 
 abbrev pub blank : Answer → Answer
@@ -98,11 +97,11 @@ pub blank_since : (k : ℕ) (h : List Line) → sections k (latest k (blanks h))
 blank_since k h = ap (sections k) (blank_latest k h) ∙ blank_sections k (latest k h)
 
 of-report : (t : Table) (h : List Line) (r : Runner) (said : Report) → of_report t (blanks h) r said ≡ of_report t h r said
-of-report t h Runs.Nobody CarryOn = refl
-of-report t h Runs.Nobody Done = refl
-of-report t h Runs.Nobody (Take r) = refl
-of-report t h Runs.Nobody Give = refl
-of-report t h (Runs.Job k) said = ap (λ (x : List Section). objection (task_at t k) x said) (blank_since k h)
+of-report t h None CarryOn = refl
+of-report t h None Done = refl
+of-report t h None (Take r) = refl
+of-report t h None Give = refl
+of-report t h (Some k) said = ap (λ (x : List Section). objection (task_at t k) x said) (blank_since k h)
 
 number_of : (t : Table) (h : List Line) (o : Option Answer) (call : Call) → number_by t (blanks h) (blank_choice o) call ≡ number_by t h o call
 number_of t h none (release k) = ap (λ (n : ℕ). cond (leb t.count k) 10 (cond (eqb n 0) 0 12)) (blank_wait t k h)
@@ -116,8 +115,8 @@ pub blank_number : (t : Table) (h : List Line) (call : Call) → number_by t (bl
 blank_number t h call = ap (λ (o : Option Answer). number_by t (blanks h) o call) (blank_standing h) ∙ number_of t h (standing h) call
 
 pub blank_ending : (t : Table) (h : List Line) (l : Line) (r : Runner) → ending_by t (blanks h) (blank_line l) r ≡ ending_by t h l r
-blank_ending t h l Runs.Nobody = refl
-blank_ending t h l (Runs.Job k) = ap (λ (b : Bool). cond b (how_ended l.call) 0) (ap (ends_at t k (blank_line l)) (blank_latest k h) ∙ blank_ends t k l (latest k h))
+blank_ending t h l None = refl
+blank_ending t h l (Some k) = ap (λ (b : Bool). cond b (how_ended l.call) 0) (ap (ends_at t k (blank_line l)) (blank_latest k h) ∙ blank_ends t k l (latest k h))
 
 pub blank_closed : (k : ℕ) (h : List Line) → ticks_closed (latest k (blanks h)) ≡ ticks_closed (latest k h)
 blank_closed k h = ap ticks_closed (blank_latest k h) ∙ blank_ticks (latest k h)

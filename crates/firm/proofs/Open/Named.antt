@@ -1,4 +1,5 @@
 -- Whom a choice names is fixed by the lines: the first job in order; or where it has not started and is blocked, the first that has. Assumes nothing.
+use Rattle.std.specs.Prelude.{Some}
 use Prim.Native.Nat.{ℕ, ◌≤◌, ◌<◌}
 use mathlib.Core.Path.{◌≡◌, refl, sym, ap, ◌∙◌, fun_ext}
 use mathlib.Core.Bool.{Bool, true, false, not, false≢true}
@@ -12,7 +13,6 @@ use Rattle.units.proofs.Laws.Folds.{both}
 use Rattle.table.specs.declared.Table.{Table}
 use Rattle.table.specs.Table.{D, ceiling}
 use Rattle.state.specs.{declared.State.State, Answers.Answer, declared.Section.Section, declared.Report.TheVariants.CarryOn}
-use Rattle.state.specs.declared.Runner.TheVariants.{Job}
 use Rattle.promise.specs.History.{Machine, choose, report, answered, Line, line_of, sections, IsOpen, has_started, ends_at, latest, is_there, ticks_left, number_by, runner_by}
 use Rattle.promise.specs.Promise.{FirstBlocked, Kept}
 use Rattle.promise.proofs.History.List.{carries_on, there_on, standing_new}
@@ -101,7 +101,7 @@ module _ (t : Table) (v : View) where
 
 -- a machine that keeps the promise names such a job
 module _ (m : Machine) (t : Table) (now : ℕ) (s : State) (h : List Line) (kept : Kept m t now s h) (next : Kept m t now (answered m t s choose).state (line_of m t s choose ∷ h))
-    (zero : (answered m t s choose).number ≡ 0) (k : ℕ) (names : (answered m t s choose).runner ≡ Job k) where
+    (zero : (answered m t s choose).number ≡ 0) (k : ℕ) (names : (answered m t s choose).runner ≡ Some k) where
   abbrev c : Line
   c = line_of m t s choose
 

@@ -1,4 +1,5 @@
 -- Any machine at any place of a history: a job that is done, and the steps that a report leaves. Assumes nothing.
+use Rattle.std.specs.Prelude.{Some, None}
 use Prim.Native.Nat.{ℕ, ◌+◌, ◌^◌, ◌≤◌, ◌<◌}
 use mathlib.Core.Path.{◌≡◌, refl, sym, ap, ◌∙◌}
 use mathlib.Core.Bool.{Bool, true, false, not, ◌&&◌, ◌||◌, or-true, cond, false≢true}
@@ -9,9 +10,8 @@ use Rattle.units.specs.Amounts.{given}
 use Rattle.units.proofs.Laws.Folds.{both, listed_at}
 use Rattle.table.specs.declared.Table.{Table}
 use Rattle.table.specs.Table.{C}
-use Rattle.state.specs.{declared.Section.Section, declared.State.State, Answers.Answer, declared.Runner.Runner, declared.Report.Report, declared.Report.TheVariants.Done, Stack.no_section, State.job_at}
-use Rattle.state.specs.declared.Runner.TheVariants.{Nobody, Job}
-use Rattle.state.specs.declared.Job as Job
+use Rattle.state.specs.{declared.Section.Section, declared.State.State, Answers.Answer, State.Runner, declared.Report.Report, declared.Report.TheVariants.Done, Stack.no_section, State.job_at}
+use Rattle.state.specs.declared.Job.{Job}
 use Rattle.promise.specs.History.{Machine, Call, report, Line, line_of, lines, state_after, start, is_at, is_tick, is_own, steps_given, sections, is_last, ends_at, is_release, latest, is_there, ending_by, pending_by, absent_by, job_by}
 use Rattle.promise.specs.Promise.{Passed, Kept, Promise}
 use Rattle.promise.proofs.History.Counts.{not-worked, has-worked, same-sections, next-sections}
@@ -44,8 +44,8 @@ used-by t now k h = go (is_there t k h)
 
 -- one line more gives the job no more than it is allowed
 allowed_own : (k v : ℕ) (r : Runner) → is_at k r ≡ true → allowed k r v ≡ given v
-allowed_own k v Nobody e = absurd (false≢true e)
-allowed_own k v (Job p) e = ap (λ (b : Bool). cond b (given v) 0) e
+allowed_own k v None e = absurd (false≢true e)
+allowed_own k v (Some p) e = ap (λ (b : Bool). cond b (given v) 0) e
 
 given-le : (t : Table) (k : ℕ) (l : Line) (h : List Line) → steps_given t k (l ∷ h) ≤ steps_given t k h + allowed k l.answer.runner l.answer.speed
 given-le t k l h = go (is_own k l) refl
@@ -83,7 +83,7 @@ module _ (m : Machine) where
     abbrev a : Answer
     a = m.report t s Done
 
-    module _ (zero : a.number ≡ 0) (runs : a.runner ≡ Job k) (keeps : Promise m) where
+    module _ (zero : a.number ≡ 0) (runs : a.runner ≡ Some k) (keeps : Promise m) where
       own : is_own k (line_of m t s (report Done)) ≡ true
       own = own_is k Done a zero runs
 
@@ -104,7 +104,7 @@ module _ (m : Machine) where
 
   -- a report leaves no job with steps that no tick gave it: whatever is read off a job, if the lines tell it and one line more adds no more to it than is allowed
   module _ (t : Table) (passed : Passed m t) (now : ℕ) (small : now < 2 ^ 32) (calls : List Call) (said : Report) (k : ℕ) (keeps : Promise m)
-      (read : Job.Job → ℕ) (told : List Line → ℕ) (read_by_lem : (now : ℕ) (h : List Line) → read (job_by t now k h) ≡ cond (is_there t k h) (told (latest k h)) 0)
+      (read : Job → ℕ) (told : List Line → ℕ) (read_by_lem : (now : ℕ) (h : List Line) → read (job_by t now k h) ≡ cond (is_there t k h) (told (latest k h)) 0)
       (grows : (l : Line) (h : List Line) → told (l ∷ h) ≤ told h + allowed k l.answer.runner l.answer.speed) where
     abbrev was : State
     was = state_after m t (start m t now) calls

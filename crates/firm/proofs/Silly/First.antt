@@ -1,4 +1,5 @@
 -- Any machine in its first tick on 01's own table: what the promise says of it there. Assumes nothing.
+use Rattle.std.specs.Prelude.{Some, None}
 use Prim.Native.Nat.{ℕ, zero, suc, ◌+◌, ◌≤◌, ◌<◌, min}
 use mathlib.Core.Path.{◌≡◌, refl, sym, ap, ◌∙◌}
 use mathlib.Core.Bool.{Bool, true, false, not, ◌&&◌, ◌||◌, false≢true}
@@ -13,8 +14,7 @@ use Rattle.units.specs.Amounts.{given}
 use Rattle.units.specs.Clock.{after}
 use Rattle.units.proofs.Laws.Folds.{both}
 use Rattle.table.specs.declared.Table.{Table}
-use Rattle.state.specs.{declared.State.State, Answers.Answer, declared.Runner.Runner, declared.Report.Report, declared.Report.TheVariants.CarryOn, State.job_at}
-use Rattle.state.specs.declared.Runner.TheVariants.{Nobody, Job}
+use Rattle.state.specs.{declared.State.State, Answers.Answer, State.Runner, declared.Report.Report, declared.Report.TheVariants.CarryOn, State.job_at}
 use Rattle.promise.specs.History.{Machine, Call, release, choose, report, answered, Line, line_of, lines, start, is_report, is_at, is_own, steps_given, longer, after_call, sections, is_last, ends_at, ticks_closed, takes_on, latest, is_there, wait, standing, number_by, runner_by}
 use Rattle.promise.specs.Promise.{Passed, Kept, Promise}
 use Rattle.promise.proofs.History.Counts.{one-tick, not-worked, same-sections, has-worked, next-sections}
@@ -73,7 +73,7 @@ eight l c e f own ends = omega (arith, budget, steps, nothing_yet)
         one_of true b f e = refl
         one_of false b f e = absurd (false≢true (sym f ∙ e))
 
-pub own_is : (k : ℕ) (said : Report) (a : Answer) → a.number ≡ 0 → a.runner ≡ Job k → is_own k (record { call = report said; answer = a }) ≡ true
+pub own_is : (k : ℕ) (said : Report) (a : Answer) → a.number ≡ 0 → a.runner ≡ Some k → is_own k (record { call = report said; answer = a }) ≡ true
 own_is k said a e f = ap (λ (n : ℕ). eqb n 0 && is_at k a.runner) e ∙ ap (is_at k) f ∙ eq-eqb k k refl
 
 module _ (m : Machine) (passed : Passed m two) (keeps : Promise m) where
@@ -151,17 +151,17 @@ module _ (m : Machine) (passed : Passed m two) (keeps : Promise m) where
         go false f = absurd (false≢true (sym (there_on taken [] p two f ∙ ap (λ (b : Bool). b && not (ends_at two p taken (latest p []))) (none_yet two p)) ∙ was))
 
     -- so the choice names it
-    pub runs : (r : Runner) → chooses.answer.runner ≡ r → r ≡ Job j
-    runs Nobody e = absurd (false≢true (sym ((after-release.idles_alone chooses_0 e).0 j) ∙ is-there))
-    runs (Job p) e =
+    pub runs : (r : Runner) → chooses.answer.runner ≡ r → r ≡ Some j
+    runs None e = absurd (false≢true (sym ((after-release.idles_alone chooses_0 e).0 j) ∙ is-there))
+    runs (Some p) e =
         let w = mid-tick.as_chosen CarryOn ticks_0 in
         let own = own_is p CarryOn ticks.answer ticks_0 (w.2 ∙ ap runner_by (sym w.1 ∙ stands) ∙ e) in
-        ap Job (sym (only p (mid-tick.within_limits CarryOn p own).there))
+        ap Some (sym (only p (mid-tick.within_limits CarryOn p own).there))
 
-    pub one_name : (k : ℕ) → ((t : Table) (s : State) (p : ℕ) → (m.choose t s).runner ≡ Job p → p ≡ k) → j ≡ k
+    pub one_name : (k : ℕ) → ((t : Table) (s : State) (p : ℕ) → (m.choose t s).runner ≡ Some p → p ≡ k) → j ≡ k
     one_name k same = same two taken.answer.state j (runs chooses.answer.runner refl)
 
-    pub nobody_runs : ((t : Table) (s : State) → (m.choose t s).runner ≡ Nobody) → ⊥
+    pub nobody_runs : ((t : Table) (s : State) → (m.choose t s).runner ≡ None) → ⊥
     nobody_runs idle = false≢true (sym ((after-release.idles_alone chooses_0 (idle two taken.answer.state)).0 j) ∙ is-there)
 
     -- the tick of the start, after a tick has closed

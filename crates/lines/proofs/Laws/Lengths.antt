@@ -1,12 +1,12 @@
 -- No line is longer than the room that is asked for. Assumes nothing.
+use Rattle.std.specs.Prelude.{Some, None}
 use mathlib.Core.Bool.{Bool, true, false, cond}
 use mathlib.Core.List.{List, [], ◌∷◌}
 use Prim.Native.Nat.{ℕ, zero, suc, ◌+◌, ◌/◌, ◌%◌, ◌≤◌}
 use native.Mathlib.Omega.{arith}
 use lib.Dec.{ltb}
 use lib.ListN.{length, length-append}
-use Rattle.state.specs.declared.Runner.{Runner}
-use Rattle.state.specs.declared.Runner.TheVariants.{Nobody, Job}
+use Rattle.state.specs.State.{Runner}
 use Rattle.state.specs.declared.Mode.{Mode}
 use Rattle.state.specs.declared.Mode.TheVariants.{Independent, Synchronization}
 use Rattle.lines.specs.declared.Line.{Line}
@@ -34,8 +34,8 @@ decimal-le n = digits_le 10 n
 
 runner-le : (r : Runner) → length (runner r) ≤ 10
 unfolding runner
-runner-le (Job p) = decimal-le p
-runner-le Nobody = omega arith
+runner-le (Some p) = decimal-le p
+runner-le None = omega arith
 
 mode-le : (m : Mode) → length (mode m) ≤ 1
 unfolding mode

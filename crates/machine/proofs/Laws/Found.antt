@@ -1,4 +1,5 @@
 -- What a call answers, by what its calls gave: the verdict of the table, then the examination of the state. Assumes nothing.
+use Rattle.std.specs.Prelude.{Some}
 use Prim.Native.Nat.{ℕ, ◌^◌, ◌≤◌, ◌<◌}
 use mathlib.Core.Path.{◌≡◌, sym, ap, ap₂, ◌∙◌}
 use mathlib.Core.Bool.{Bool, true, false, not}
@@ -16,7 +17,6 @@ use Rattle.admission.proofs.Laws.Admitted.{admitted}
 use Rattle.state.specs.declared.Job.{Job}
 use Rattle.state.specs.declared.State.{State}
 use Rattle.state.specs.declared.Report.{Report}
-use Rattle.state.specs.declared.Runner.TheVariants as Runs
 use Rattle.state.specs.State.{job_at}
 use Rattle.state.specs.Order.{held_resources}
 use Rattle.state.specs.Answers.{Answer, bare}
@@ -68,7 +68,7 @@ module _ (t : Table) (s : State) {found : Examined} (e : found ≡ examined t s)
       choose_makes t s good between (record { state = next; turn = found.turn }) (rw (h, u))
 
   -- whoever runs is at a position below 16
-  pub found_below : (p : ℕ) → found.turn.runner ≡ Runs.Job p → p < 16
+  pub found_below : (p : ℕ) → found.turn.runner ≡ Some p → p < 16
   found_below p h = runner_below t s p (sym (ap (λ (x : Examined). x.turn.runner) is_whole) ∙ h)
 
   module _ {after : Reported} {p : ℕ} (said : Report) (f : after ≡ reported_by t s found.turn.runner found.held found.turn.speed said) (g : p ≡ runner_position found.turn.runner)

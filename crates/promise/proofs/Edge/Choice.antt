@@ -1,4 +1,5 @@
 -- The choice, as the proof sees it: from its laws. Assumes nothing.
+use Rattle.std.specs.Prelude.{Some, None}
 use Prim.Native.Nat.{ℕ, ◌≤◌, ◌<◌}
 use mathlib.Core.Path.{◌≡◌, refl, sym, ap, ◌∙◌}
 use mathlib.Core.Bool.{Bool, true, false, ◌&&◌, false≢true}
@@ -11,12 +12,10 @@ use Rattle.units.proofs.Laws.Amounts.{given-more}
 use Rattle.table.specs.declared.Table.{Table}
 use Rattle.table.specs.Table.{task_at, D, ceilings}
 use Rattle.state.specs.declared.Job.{Job}
-use Rattle.state.specs.declared.Mark.{Mark}
-use Rattle.state.specs.declared.Mark.TheVariants.{Absent, At}
 use Rattle.state.specs.declared.Mode.TheVariants.{Synchronization}
 use Rattle.state.specs.declared.Place.{Place}
 use Rattle.state.specs.declared.State.{State}
-use Rattle.state.specs.State.{job_at}
+use Rattle.state.specs.State.{job_at, Mark}
 use Rattle.state.specs.Order.{place, place_at, position_of, no_place, is_pending, is_started, is_holder, holds_any}
 use Rattle.state.proofs.Laws.Order.{nearer-first, first-le, first_found, place-position, place-distance}
 use Rattle.choice.specs.declared.Turn.{Turn}
@@ -24,7 +23,6 @@ use Rattle.choice.specs.Choice.{alone, top, bars, blocked, runner, turn, begun, 
 use Rattle.choice.proofs.Laws.Choice as Law
 use Rattle.choice.proofs.Laws.Ready.{Ready, blocked_tells, blocked-holds, runs-started}
 use Rattle.choice.proofs.Laws.Runner.{named, runner-blocked, runner_free}
-use Rattle.state.specs.declared.Runner.TheVariants as Runs
 use Rattle.consistency.proofs.Laws.Facts.{MarkFits}
 use Rattle.promise.specs.History.{written}
 use Rattle.promise.specs.Promise.{Passed}
@@ -39,8 +37,8 @@ chosen_state t s = in_mid_tick s (turn t s)
 
 -- the place of a mark
 abbrev marked-place : Place → Mark → Place
-marked-place d Absent = d
-marked-place d (At m) = m
+marked-place d None = d
+marked-place d (Some m) = m
 
 -- who is further in the order is not nearer
 further : (now d e j k : ℕ) → j < 256 → k < 256 → place now d j ≤ place now e k → distance now d ≤ distance now e
@@ -70,7 +68,7 @@ module _ {t : Table} {passed : Passed written t} {s : State} (good : Good passed
   next = chosen_state t s
 
   -- the job that runs is the one at `at`
-  pub runs-at : (p : ℕ) → (turn t s).runner ≡ Runs.Job p → at ≡ p
+  pub runs-at : (p : ℕ) → (turn t s).runner ≡ Some p → at ≡ p
   runs-at p e = named (sym (Law.runner-is t s ready some) ∙ e)
 
   -- ---- the jobs
@@ -184,12 +182,12 @@ module _ {t : Table} {passed : Passed written t} {s : State} (good : Good passed
   }
     where
       old-mark : (n : Mark) → s.mark ≡ n → marked n ≡ true → mark_distance now n ≤ mark_distance now (turn t s).mark
-      old-mark Absent e f = absurd (false≢true f)
-      old-mark (At o) e f =
+      old-mark None e f = absurd (false≢true f)
+      old-mark (Some o) e f =
           reach m o.position o.deadline.0 (omega (arith, (good.stands.mark o e).position, few)) (omega (arith, m.old-mark, ap (mark_place now) e))
 
   -- L7: a mark that stands afterwards is in the table, not too far, and not nearer than the runner
-  pub mark-fits : (m : Place) → (turn t s).mark ≡ At m → MarkFits t.count now m
+  pub mark-fits : (m : Place) → (turn t s).mark ≡ Some m → MarkFits t.count now m
   mark-fits m e = go (Law.marked-or-alone t s ready some)
     where
       go : Law.Marked t s ready some ⊎ (turn t s ≡ alone (runner t s) (task_at t at)) → MarkFits t.count now m
@@ -218,8 +216,8 @@ module _ {t : Table} {passed : Passed written t} {s : State} (good : Good passed
   marks (inr (inr w)) = go s.mark refl w.0 w.1
     where
       go : (n : Mark) → s.mark ≡ n → marked n ≡ true → distance now (job_at s at).deadline.0 < mark_distance now n → Law.Marked t s ready some
-      go Absent e f d = absurd (false≢true f)
-      go (At m) e f d =
+      go None e f d = absurd (false≢true f)
+      go (Some m) e f d =
           Law.marked_behind t s ready some
           (omega (
             arith,

@@ -1,4 +1,5 @@
 -- The invariant of a history's states; it makes them consistent, and a fresh start has it. Assumes nothing.
+use Rattle.std.specs.Prelude.{None}
 use Prim.Native.Nat.{ℕ, ◌^◌, ◌≤◌, ◌<◌}
 use mathlib.Core.Path.{◌≡◌, sym, ap, ◌∙◌}
 use mathlib.Core.Bool.{true, false≢true}
@@ -10,7 +11,6 @@ use Rattle.table.specs.declared.Table.{Table}
 use Rattle.admission.proofs.Laws.Admitted.{Admitted, admitted}
 use Rattle.state.specs.declared.Job.{Job}
 use Rattle.state.specs.declared.Half.TheVariants.{First, Second}
-use Rattle.state.specs.declared.Runner.TheVariants as Runs
 use Rattle.state.specs.declared.State.{State}
 use Rattle.state.specs.State.{job_at, empty}
 use Rattle.state.proofs.Laws.Fresh.{no_more, empty-is, empty-long, empty_job}
@@ -55,14 +55,14 @@ module _ {t : Table} (passed : Passed written t) where
   pub record Good (s : State) : Type 0 where
     pub stands : Stands t s
     pub mid : Midway (tasks t) (view t s)
-    pub first : s.half ≡ First → (s.runner ≡ Runs.Nobody) × Nearer (tasks t) (view t s)
+    pub first : s.half ≡ First → (s.runner ≡ None) × Nearer (tasks t) (view t s)
     pub second : s.half ≡ Second → Unchanged t s
 
   pub sees : {s : State} → Stands t s → Lawful (tasks t) (view t s)
   sees stands = lawful passes stands (λ k l. passed.limits k (omega (arith, passes.count.high)) l)
 
   -- between ticks
-  pub rests : (s : State) → Stands t s → s.half ≡ First → s.runner ≡ Runs.Nobody → Between (tasks t) (view t s) → Good s
+  pub rests : (s : State) → Stands t s → s.half ≡ First → s.runner ≡ None → Between (tasks t) (view t s) → Good s
   rests s stands h r b = record {
     stands = stands;
     mid = b.midway;

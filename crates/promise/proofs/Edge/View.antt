@@ -1,4 +1,5 @@
 -- The edge: a table and a state of the machine, as the proof sees them. Past it distances are plain numbers. Assumes nothing.
+use Rattle.std.specs.Prelude.{Some, None}
 use Prim.Native.Nat.{ℕ, ◌-◌, ◌^◌, ◌≤◌, ◌<◌}
 use mathlib.Core.Path.{◌≡◌, refl, sym, ap, ◌∙◌}
 use mathlib.Core.Bool.{Bool, true, false, ◌&&◌, and-false, false≢true}
@@ -24,11 +25,9 @@ use Rattle.state.specs.declared.Job.{Job}
 use Rattle.state.specs.declared.Section.{Section}
 use Rattle.state.specs.declared.Stack.{Stack}
 use Rattle.state.specs.declared.Place.{Place}
-use Rattle.state.specs.declared.Mark.{Mark}
-use Rattle.state.specs.declared.Mark.TheVariants.{Absent, At}
 use Rattle.state.specs.declared.State.{State}
 use Rattle.state.specs.Stack.{section_at}
-use Rattle.state.specs.State.{job_at}
+use Rattle.state.specs.State.{job_at, Mark}
 use Rattle.state.specs.Order.{place_at, holds_any}
 use Rattle.state.proofs.Laws.Order.{nearer-first, place-position}
 use Rattle.state.proofs.Laws.Stacks.{On, on_tells, on_none}
@@ -68,12 +67,12 @@ unfoldable pub left : Table → Task → ℕ → Stack → ℕ
 left t task x h = first (λ i. ltb i h.depth && section_bars (ceilings t) x (section_at h i)) (λ i. rest task (section_at h i)) 0 4
 
 abbrev pub marked : Mark → Bool
-marked Absent = false
-marked (At m) = true
+marked None = false
+marked (Some m) = true
 
 abbrev pub mark_distance : ℕ → Mark → ℕ
-mark_distance now Absent = 0
-mark_distance now (At m) = distance now m.deadline.0
+mark_distance now None = 0
+mark_distance now (Some m) = distance now m.deadline.0
 
 abbrev pub view : Table → State → View
 view t s = record {
@@ -104,7 +103,7 @@ pub record Stands (t : Table) (s : State) : Type 0 where
   pub jobs : (k : ℕ) → k < t.count → JobStands (task_at t k) (job_at s k)
   pub past : (k : ℕ) → t.count ≤ k → Unused (job_at s k)
   pub once : Once s 16
-  pub mark : (m : Place) → s.mark ≡ At m → MarkFits t.count s.tick.0 m
+  pub mark : (m : Place) → s.mark ≡ Some m → MarkFits t.count s.tick.0 m
 
 -- ---- the steps left
 

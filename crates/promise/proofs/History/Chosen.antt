@@ -1,4 +1,5 @@
 -- Whom a choice names, by the whole list. Assumes nothing.
+use Rattle.std.specs.Prelude.{Some, None}
 use Prim.Native.Nat.{ℕ, ◌≤◌, ◌<◌}
 use mathlib.Core.Path.{◌≡◌, refl, sym, ap, ◌∙◌, subst}
 use mathlib.Core.Bool.{Bool, true, false, false≢true}
@@ -12,9 +13,7 @@ use Rattle.table.specs.Table.{D, ceiling, ceilings}
 use Rattle.state.specs.Answers.{Answer}
 use Rattle.state.specs.declared.Section.{Section}
 use Rattle.state.specs.declared.Stack.{Stack}
-use Rattle.state.specs.declared.Mark.TheVariants.{Absent}
 use Rattle.state.specs.declared.Mode.TheVariants.{Independent, Synchronization}
-use Rattle.state.specs.declared.Runner.TheVariants as Runs
 use Rattle.state.specs.declared.State.{State}
 use Rattle.state.specs.Stack.{section_at}
 use Rattle.state.specs.State.{job_at}
@@ -59,7 +58,7 @@ module _ {t : Table} {passed : Passed written t} {s : State} (good : Good passed
     its of by e = ap of chose ∙ e ∙ ap by (Law.choice-turn t s)
 
     -- nobody
-    module _ (idles-now : a.runner ≡ Runs.Nobody) where
+    module _ (idles-now : a.runner ≡ None) where
       none_top : no_place ≤ top s
       none_top = go (dec_lt (top s) no_place)
         where
@@ -71,7 +70,7 @@ module _ {t : Table} {passed : Passed written t} {s : State} (good : Good passed
       none_there k false q = q
       none_there k true q = absurd (omega (arith, none_top, some-top good k (pending-is good listed k ∙ q)))
 
-      pub idle-is : ((k : ℕ) → is_there t k h ≡ false) × (a.mode ≡ Independent) × (a.speed ≡ 0) × (a.state.mark ≡ Absent)
+      pub idle-is : ((k : ℕ) → is_there t k h ≡ false) × (a.mode ≡ Independent) × (a.speed ≡ 0) × (a.state.mark ≡ None)
       idle-is = (
         λ k. none_there k (is_there t k h) refl,
         its (λ b. b.mode) (λ u. u.mode) refl ∙ ap (λ (u : Turn). u.mode) (Law.idle-turn t s none_top),
@@ -80,8 +79,8 @@ module _ {t : Table} {passed : Passed written t} {s : State} (good : Good passed
       )
 
     -- a job
-    module _ (k : ℕ) (named : a.runner ≡ Runs.Job k) where
-      runs_k : (turn t s).runner ≡ Runs.Job k
+    module _ (k : ℕ) (named : a.runner ≡ Some k) where
+      runs_k : (turn t s).runner ≡ Some k
       runs_k = sym (its (λ b. b.runner) (λ u. u.runner) refl) ∙ named
 
       some : top s < no_place

@@ -1,4 +1,5 @@
 -- In a history nobody behind a mark holds anything, so that a mark which stands does not move. Assumes nothing.
+use Rattle.std.specs.Prelude.{Some, None}
 use Prim.Native.Nat.{ℕ, ◌^◌, max, ◌≤◌, ◌<◌}
 use mathlib.Core.Path.{◌≡◌, refl, sym, ap, ◌∙◌, subst}
 use mathlib.Core.Bool.{true, false≢true}
@@ -15,10 +16,8 @@ use Rattle.table.specs.Table.{task_at}
 use Rattle.state.specs.Answers.{Answer}
 use Rattle.state.specs.declared.Half.TheVariants.{Second}
 use Rattle.state.specs.declared.Job.{Job}
-use Rattle.state.specs.declared.Mark.TheVariants.{Absent, At}
 use Rattle.state.specs.declared.Place.{Place}
 use Rattle.state.specs.declared.Report.{Report}
-use Rattle.state.specs.declared.Runner.TheVariants as Runs
 use Rattle.state.specs.declared.State.{State}
 use Rattle.state.specs.State.{job_at}
 use Rattle.state.specs.Order.{place, place_at, no_place, position_of, holds_any, is_holder, last_holder}
@@ -46,9 +45,9 @@ use Rattle.promise.proofs.Keep.Made.{Made, refused, takes-on, chooses, idles, ru
 
 -- every job that holds something is at the mark or ahead of it
 abbrev NoneBehind : State → Type 0
-NoneBehind s = (m : Place) → s.mark ≡ At m → (k : ℕ) → holds_any (job_at s k).held ≡ true → place_at s k ≤ mark_place s.tick.0 (At m)
+NoneBehind s = (m : Place) → s.mark ≡ Some m → (k : ℕ) → holds_any (job_at s k).held ≡ true → place_at s k ≤ mark_place s.tick.0 (Some m)
 
-no_mark : (s : State) → s.mark ≡ Absent → NoneBehind s
+no_mark : (s : State) → s.mark ≡ None → NoneBehind s
 no_mark s e m f = absurd (false≢true (ap marked (sym e ∙ f)))
 
 module _ {t : Table} {passed : Passed written t} {s : State} (good : Good passed s) (last : NoneBehind s) where
@@ -63,7 +62,7 @@ module _ {t : Table} {passed : Passed written t} {s : State} (good : Good passed
   on_release : (p : ℕ) → p < t.count → NoneBehind (released_at t s p)
   on_release p l m e k h = go (ℕ_discrete k p)
     where
-      go : Dec (k ≡ p) → place_at (released_at t s p) k ≤ mark_place s.tick.0 (At m)
+      go : Dec (k ≡ p) → place_at (released_at t s p) k ≤ mark_place s.tick.0 (Some m)
       go (yes q) =
           absurd (false≢true
           (sym (ap (λ (j : Job). holds_any j.held) (ap (job_at (released_at t s p)) q ∙ released_job t s p (omega (arith, (passes passed).count.high, good.stands.long)))) ∙ h))
@@ -74,7 +73,7 @@ module _ {t : Table} {passed : Passed written t} {s : State} (good : Good passed
   -- a choice: the mark is at or behind the runner, and all holders behind it
   module _ (some : top s < no_place) where
     reaches : Law.Marked t s (is_ready good) some ⊎ (turn t s ≡ alone (runner t s) (task_at t (position_of (runner t s))))
-        → (m : Place) → (turn t s).mark ≡ At m → (k : ℕ) → holds_any (job_at s k).held ≡ true → place_at s k ≤ mark_place s.tick.0 (At m)
+        → (m : Place) → (turn t s).mark ≡ Some m → (k : ℕ) → holds_any (job_at s k).held ≡ true → place_at s k ≤ mark_place s.tick.0 (Some m)
     reaches (inr w) m e k h = absurd (false≢true (ap marked (sym (ap (λ (u : Turn). u.mark) w) ∙ e)))
     reaches (inl w) m e k h = omega (arith, w.stands.place, ap (mark_place s.tick.0) (sym w.stands.is ∙ e), at_most (dec_lt (runner t s) (place_at s k)))
       where
@@ -92,7 +91,7 @@ module _ {t : Table} {passed : Passed written t} {s : State} (good : Good passed
         omega (arith, ap (λ (d : ℕ). place s.tick.0 d k) deadline, reaches (Law.marked-or-alone t s (is_ready good) some) m e k (sym held ∙ h))
 
   -- a tick: all comes one nearer, and the runner, which may have taken something, is at the mark or ahead of it
-  module _ (h : s.half ≡ Second) (p : ℕ) (said : Report) (runs-p : (turn t s).runner ≡ Runs.Job p) (there : (job_at s p).pending ≡ true) where
+  module _ (h : s.half ≡ Second) (p : ℕ) (said : Report) (runs-p : (turn t s).runner ≡ Some p) (there : (job_at s p).pending ≡ true) where
     some : top s < no_place
     some = some-top good p there
 
@@ -106,13 +105,13 @@ module _ {t : Table} {passed : Passed written t} {s : State} (good : Good passed
     runner-at : position_of (runner t s) ≡ p
     runner-at = Chosen.runs-at good some p runs-p
 
-    runner_reaches : (m : Place) → s.mark ≡ At m → place_at s p ≤ mark_place s.tick.0 (At m)
+    runner_reaches : (m : Place) → s.mark ≡ Some m → place_at s p ≤ mark_place s.tick.0 (Some m)
     runner_reaches m e = go (Law.marked-or-alone t s (is_ready good) some)
       where
-        is : (turn t s).mark ≡ At m
+        is : (turn t s).mark ≡ Some m
         is = (good.second h).mark ∙ e
 
-        go : Law.Marked t s (is_ready good) some ⊎ (turn t s ≡ alone (runner t s) (task_at t (position_of (runner t s)))) → place_at s p ≤ mark_place s.tick.0 (At m)
+        go : Law.Marked t s (is_ready good) some ⊎ (turn t s ≡ alone (runner t s) (task_at t (position_of (runner t s)))) → place_at s p ≤ mark_place s.tick.0 (Some m)
         go (inr w) = absurd (false≢true (ap marked (sym (ap (λ (u : Turn). u.mark) w) ∙ is)))
         go (inl w) =
             omega (
@@ -125,8 +124,8 @@ module _ {t : Table} {passed : Passed written t} {s : State} (good : Good passed
             )
 
     -- what holds something afterwards was there, with the same deadline
-    was : (k : ℕ) → holds_any (job_at next k).held ≡ true → (m : Place) → s.mark ≡ At m
-        → ((job_at s k).pending ≡ true) × ((job_at next k).deadline.0 ≡ (job_at s k).deadline.0) × (place_at s k ≤ mark_place s.tick.0 (At m))
+    was : (k : ℕ) → holds_any (job_at next k).held ≡ true → (m : Place) → s.mark ≡ Some m
+        → ((job_at s k).pending ≡ true) × ((job_at next k).deadline.0 ≡ (job_at s k).deadline.0) × (place_at s k ≤ mark_place s.tick.0 (Some m))
     was k hk m e = go (ℕ_discrete k p)
       where
         own : Fate (task_at t p) said (Report.worked (task_at t p) (turn t s).speed (job_at s p)) (outcome t s (turn t s) p said) → holds_any job.held ≡ true
@@ -136,7 +135,7 @@ module _ {t : Table} {passed : Passed written t} {s : State} (good : Good passed
         own (stopped g f) x = absurd (false≢true (sym (ap (λ (o : Outcome). holds_any o.job.held) f) ∙ x))
         own (goes y u z f) x = ap (λ (o : Outcome). o.job.deadline.0) f
 
-        go : Dec (k ≡ p) → ((job_at s k).pending ≡ true) × ((job_at next k).deadline.0 ≡ (job_at s k).deadline.0) × (place_at s k ≤ mark_place s.tick.0 (At m))
+        go : Dec (k ≡ p) → ((job_at s k).pending ≡ true) × ((job_at next k).deadline.0 ≡ (job_at s k).deadline.0) × (place_at s k ≤ mark_place s.tick.0 (Some m))
         go (yes q) =
             let same : job_at next p ≡ waited job = closed-set-same s p job (omega (arith, below_16 (passes passed) good.stands p there, good.stands.long)) in
             let held : holds_any job.held ≡ true = sym (ap (λ (j : Job). holds_any j.held) same) ∙ ap (λ (i : ℕ). holds_any (job_at next i).held) (sym q) ∙ hk in
@@ -189,7 +188,7 @@ module _ {t : Table} (passed : Passed written t) (now : ℕ) (small : now < 2 ^ 
   none_behind (call ∷ before) = kept (at_good passed now small before) (none_behind before) call _ (made passed now small before call)
 
   -- so "the last in order among the old mark and those holders" is the old mark, where one stands
-  pub mark-stays : (calls : List Call) (m : Place) → (at passed now small calls).mark ≡ At m → (run : ℕ)
+  pub mark-stays : (calls : List Call) (m : Place) → (at passed now small calls).mark ≡ Some m → (run : ℕ)
       → max (old_mark (at passed now small calls)) (last_holder (at passed now small calls) run) ≡ old_mark (at passed now small calls)
   mark-stays calls m e run = go (dec_lt 0 (last_holder s run))
     where
@@ -223,7 +222,7 @@ module _ {t : Table} (passed : Passed written t) (now : ℕ) (small : now < 2 ^ 
           (runner_blocks (sees passed good.stands) (Chosen.chosen good l) good.mid.shorter good.mid.clear w)
 
   -- so "the last in order among the old mark, the runner, and any holders behind the runner" is the old mark too
-  pub mark_stays-blocked : (calls : List Call) (m : Place) → let s = at passed now small calls in s.mark ≡ At m → top s < no_place → (runner t s ≡ top s → ⊥)
+  pub mark_stays-blocked : (calls : List Call) (m : Place) → let s = at passed now small calls in s.mark ≡ Some m → top s < no_place → (runner t s ≡ top s → ⊥)
       → max (old_mark s) (max (runner t s) (last_holder s (runner t s))) ≡ old_mark s
   mark_stays-blocked calls m e l n =
       let s = at passed now small calls in

@@ -1,4 +1,5 @@
 -- The number of each call, by the whole list, and what a refusal and a release answer. Assumes nothing.
+use Rattle.std.specs.Prelude.{Some, None}
 use Prim.Native.Nat.{ℕ, zero, suc, ◌≤◌, ◌<◌}
 use mathlib.Core.Path.{◌≡◌, refl, sym, ap, ap₂, ◌∙◌}
 use mathlib.Core.Bool.{Bool, true, false, cond, ◌||◌, false≢true}
@@ -19,10 +20,8 @@ use Rattle.state.specs.declared.Stack.{Stack}
 use Rattle.state.specs.declared.Half.TheVariants.{First, Second}
 use Rattle.state.specs.declared.Report.{Report}
 use Rattle.state.specs.declared.Report.TheVariants.{CarryOn, Done, Take, Give}
-use Rattle.state.specs.declared.Runner.{Runner}
-use Rattle.state.specs.declared.Runner.TheVariants as Runs
 use Rattle.state.specs.declared.State.{State}
-use Rattle.state.specs.State.{job_at}
+use Rattle.state.specs.State.{job_at, Runner}
 use Rattle.state.specs.Answers.{Answer, bare}
 use Rattle.state.specs.Stack.{section_at}
 use Rattle.state.specs.Order.{holds, held_resources}
@@ -57,13 +56,13 @@ module _ {t : Table} {passed : Passed written t} {s : State} (good : Good passed
 
   module _ (m : s.half ≡ Second) where
     -- of a report at an idle tick
-    idle-number : (turn t s).runner ≡ Runs.Nobody → (said : Report) → (reply (report said)).number ≡ of_report t h Runs.Nobody said
+    idle-number : (turn t s).runner ≡ None → (said : Report) → (reply (report said)).number ≡ of_report t h None said
     idle-number r said = go said (idle-objects t s r said)
       where
         objects : (said : Report) → Report.report t s said ≡ bare 14 s → (reply (report said)).number ≡ 14
         objects said e = ap (λ (a : Answer). a.number) (Calls.report-runs t s (steady good) said (middle good m) ∙ e)
 
-        go : (said : Report) → (said ≡ CarryOn) ⊎ (Report.report t s said ≡ bare 14 s) → (reply (report said)).number ≡ of_report t h Runs.Nobody said
+        go : (said : Report) → (said ≡ CarryOn) ⊎ (Report.report t s said ≡ bare 14 s) → (reply (report said)).number ≡ of_report t h None said
         go CarryOn e = idle_goes_on good m r
         go Done (inr e) = objects Done e
         go (Take q) (inr e) = objects (Take q) e
@@ -73,7 +72,7 @@ module _ {t : Table} {passed : Passed written t} {s : State} (good : Good passed
         go Give (inl e) = absurd (false≢true (ap carries e))
 
     -- of the report of a job
-    module _ (p : ℕ) (r : (turn t s).runner ≡ Runs.Job p) where
+    module _ (p : ℕ) (r : (turn t s).runner ≡ Some p) where
       abbrev held : ℕ
       held = held_resources s
 
@@ -113,7 +112,7 @@ module _ {t : Table} {passed : Passed written t} {s : State} (good : Good passed
       same-objection Give = give-objection own.depth
       same-objection (Take q) = take-objection q
 
-      job_number : (said : Report) → (reply (report said)).number ≡ of_report t h (Runs.Job p) said
+      job_number : (said : Report) → (reply (report said)).number ≡ of_report t h (Some p) said
       job_number said =
           run_number good m p r said ∙ same-objection said ∙ ap (λ (l : List Section). objection (task_at t p) l said) (tells good listed p (Run.there good m p r)).held
 
@@ -121,8 +120,8 @@ module _ {t : Table} {passed : Passed written t} {s : State} (good : Good passed
     report-number said = go (turn t s).runner refl
       where
         go : (q : Runner) → (turn t s).runner ≡ q → (reply (report said)).number ≡ of_report t h q said
-        go Runs.Nobody r = idle-number r said
-        go (Runs.Job p) r = job_number p r said
+        go None r = idle-number r said
+        go (Some p) r = job_number p r said
 
   release-number : s.half ≡ First → (k : ℕ) → (reply (release k)).number ≡ cond (leb t.count k) 10 (cond (eqb (wait t k h) 0) 0 12)
   release-number f k = go (dec_lt k t.count) (dec_le (job_at s k).wait.0 0)

@@ -1,4 +1,5 @@
 -- As long as no job has taken a resource nobody holds one, no mark stands, and every choice is independent. Assumes nothing.
+use Rattle.std.specs.Prelude.{None}
 use Prim.Native.Nat.{ℕ, ◌^◌, ◌<◌, ◌≤◌}
 use mathlib.Core.Path.{◌≡◌, refl, sym, ap, ◌∙◌}
 use mathlib.Core.Bool.{Bool, true, false, cond, not, ◌&&◌, false≢true}
@@ -13,7 +14,6 @@ use Rattle.state.specs.declared.State.{State}
 use Rattle.state.specs.Answers.{Answer}
 use Rattle.state.specs.declared.Job.{Job}
 use Rattle.state.specs.declared.Report.TheVariants.{CarryOn, Done, Take, Give}
-use Rattle.state.specs.declared.Mark.TheVariants.{Absent}
 use Rattle.state.specs.declared.Section.{Section}
 use Rattle.state.specs.declared.Mode.TheVariants.{Independent}
 use Rattle.state.specs.State.{job_at}
@@ -76,7 +76,7 @@ module _ {t : Table} (passed : Passed written t) (now : ℕ) (small : now < 2 ^ 
       go true = ap (λ (l : List Section). holds_any (stack_of l)) (no_sections k (latest k h) (none_since k h e))
 
   -- with nobody holding anything and no mark, the runner is top, by rule 5
-  module _ (calls : List Call) (e : none_taken (history passed now small calls) ≡ true) (absent : (at passed now small calls).mark ≡ Absent) where
+  module _ (calls : List Call) (e : none_taken (history passed now small calls) ≡ true) (absent : (at passed now small calls).mark ≡ None) where
     abbrev s : State
     s = at passed now small calls
 
@@ -97,11 +97,11 @@ module _ {t : Table} (passed : Passed written t) (now : ℕ) (small : now < 2 ^ 
     by_rule_5 : top s < no_place → turn t s ≡ alone (runner t s) (task_at t (position_of (runner t s)))
     by_rule_5 l = turn-runs t s l ∙ Rules.rule_5 t s (runner t s) is-top (no_holder (dec_lt 0 (last_holder s (runner t s)))) absent
 
-    turn-unmarked : Dec (top s < no_place) → (turn t s).mark ≡ Absent
+    turn-unmarked : Dec (top s < no_place) → (turn t s).mark ≡ None
     turn-unmarked (yes l) = ap (λ (u : Turn). u.mark) (by_rule_5 l)
     turn-unmarked (no l) = ap (λ (u : Turn). u.mark) (Law.idle-turn t s (omega arith))
 
-  unmarked : (calls : List Call) → none_taken (history passed now small calls) ≡ true → (at passed now small calls).mark ≡ Absent
+  unmarked : (calls : List Call) → none_taken (history passed now small calls) ≡ true → (at passed now small calls).mark ≡ None
   unfolding lines none_taken
   unmarked [] e = ap (λ (s : State). s.mark) (start_is passed now small ∙ empty-is (tick now))
   unmarked (call ∷ before) e =
@@ -111,7 +111,7 @@ module _ {t : Table} (passed : Passed written t) (now : ℕ) (small : now < 2 ^ 
       s : State
       s = at passed now small before
 
-      go : none_taken (history passed now small before) ≡ true → s.mark ≡ Absent → Made t s call (answered written t s call) → (answered written t s call).state.mark ≡ Absent
+      go : none_taken (history passed now small before) ≡ true → s.mark ≡ None → Made t s call (answered written t s call) → (answered written t s call).state.mark ≡ None
       go f m (refused n l e) = ap (λ (a : Answer). a.state.mark) e ∙ m
       go f m (takes-on p c l g e) = ap (λ (a : Answer). a.state.mark) e ∙ m
       go f m (chooses c e) = ap (λ (a : Answer). a.state.mark) e ∙ ap (λ (x : State). x.mark) (Law.choice-is t s) ∙ turn-unmarked before f m (dec_lt (top s) no_place)

@@ -1,4 +1,5 @@
 -- Who had a tick, in which mode and at which speed, and how the job ended, by the whole list. Assumes nothing.
+use Rattle.std.specs.Prelude.{Some, None}
 use Prim.Native.Nat.{ℕ, ◌≤◌, ◌<◌}
 use mathlib.Core.Path.{◌≡◌, refl, sym, ap, ◌∙◌, subst}
 use mathlib.Core.Bool.{Bool, true, false, cond, false≢true}
@@ -19,10 +20,8 @@ use Rattle.state.specs.declared.Mode.{Mode}
 use Rattle.state.specs.declared.Mode.TheVariants.{Synchronization}
 use Rattle.state.specs.declared.Report.{Report}
 use Rattle.state.specs.declared.Report.TheVariants.{CarryOn, Done, Take, Give}
-use Rattle.state.specs.declared.Runner.{Runner}
-use Rattle.state.specs.declared.Runner.TheVariants as Runs
 use Rattle.state.specs.declared.State.{State}
-use Rattle.state.specs.State.{job_at}
+use Rattle.state.specs.State.{job_at, Runner}
 use Rattle.state.specs.Order.{no_place, holds_any, held_resources}
 use Rattle.choice.specs.declared.Turn.{Turn}
 use Rattle.choice.specs.Choice.{top, runner, alone, turn, choice}
@@ -84,7 +83,7 @@ module _ {t : Table} {passed : Passed written t} {s : State} (good : Good passed
 
   -- ---- the tick of a job
 
-  module _ (p : ℕ) (said : Report) (r : (turn t s).runner ≡ Runs.Job p) (f : (job_at s p).pending ≡ true) where
+  module _ (p : ℕ) (said : Report) (r : (turn t s).runner ≡ Some p) (f : (job_at s p).pending ≡ true) where
     abbrev o : Outcome
     o = outcome t s (turn t s) p said
 
@@ -164,8 +163,8 @@ module _ {t : Table} {passed : Passed written t} {s : State} (good : Good passed
 
       -- a choice ends nothing
       none_ends : (a : Answer) (r : Runner) → 0 ≡ ending_by t h (line choose a) r
-      none_ends a Runs.Nobody = refl
-      none_ends a (Runs.Job k) = sym (ap (λ (b : Bool). cond b 0 0) (ends_own (line choose a) (latest k h) k t refl))
+      none_ends a None = refl
+      none_ends a (Some k) = sym (ap (λ (b : Bool). cond b 0 0) (ends_own (line choose a) (latest k h) k t refl))
 
       go : Made t s call (reply call) → Ends call (reply call)
       go (refused n l e) = ends_as refl e refl
@@ -178,7 +177,7 @@ module _ {t : Table} {passed : Passed written t} {s : State} (good : Good passed
 
   -- what holds of the turn of a job's own tick holds of what is answered
   own_turn : (said : Report) (k : ℕ) → is_own k (line (report said) (reply (report said))) ≡ true → (P : Mode → ℕ → Type 0)
-      → ((q : Report) → (turn t s).runner ≡ Runs.Job k → (job_at s k).pending ≡ true → k < t.count → P (turn t s).mode (turn t s).speed) → P (reply (report said)).mode (reply (report said)).speed
+      → ((q : Report) → (turn t s).runner ≡ Some k → (job_at s k).pending ≡ true → k < t.count → P (turn t s).mode (turn t s).speed) → P (reply (report said)).mode (reply (report said)).speed
   own_turn said k own P of-turn = go (keep good (report said)).made
     where
       a : Answer
@@ -195,7 +194,7 @@ module _ {t : Table} {passed : Passed written t} {s : State} (good : Good passed
       go (runs p q c m r l f g e) =
           let same : p ≡ k = eqb-true p k (mine (ap (λ (b : Answer). b.runner) e ∙ r)) in
           subst (λ (b : Answer). P b.mode b.speed) (sym e)
-          (of-turn q (r ∙ ap Runs.Job same) (ap (λ (i : ℕ). (job_at s i).pending) (sym same) ∙ f) (omega (arith, l)))
+          (of-turn q (r ∙ ap Some same) (ap (λ (i : ℕ). (job_at s i).pending) (sym same) ∙ f) (omega (arith, l)))
 
   pub speed-is : (said : Report) (k : ℕ) → is_own k (line (report said) (reply (report said))) ≡ true
       → (1 ≤ (reply (report said)).speed) × ((reply (report said)).speed ≤ t.full) × InMode t k (reply (report said)).mode (reply (report said)).speed

@@ -1,4 +1,5 @@
 -- What a report answers, case by case. Assumes nothing.
+use Rattle.std.specs.Prelude.{Some, None}
 use Prim.Native.Nat.{ℕ, ◌≤◌, ◌<◌}
 use mathlib.Core.Path.{◌≡◌, refl, sym, ap, ◌∙◌}
 use mathlib.Core.List.{List}
@@ -18,13 +19,11 @@ use Rattle.table.specs.declared.Table.{Table}
 use Rattle.table.specs.Table.{task_at, limit}
 use Rattle.state.specs.declared.Job.{Job}
 use Rattle.state.specs.declared.State.{State}
-use Rattle.state.specs.declared.Runner.{Runner}
-use Rattle.state.specs.declared.Runner.TheVariants as Runs
 use Rattle.state.specs.declared.Report.{Report}
 use Rattle.state.specs.declared.Report.TheVariants.{CarryOn, Done, Take, Give}
 use Rattle.state.specs.declared.Ending.{Ending}
 use Rattle.state.specs.declared.Ending.TheVariants as Ends
-use Rattle.state.specs.State.{job_at}
+use Rattle.state.specs.State.{job_at, Runner}
 use Rattle.state.specs.Order.{holds, holds_any, held_resources}
 use Rattle.state.specs.Answers.{Answer, ending_number, bare}
 use Rattle.choice.specs.declared.Turn.{Turn}
@@ -174,7 +173,7 @@ module _ (t : Table) (s : State) where
   closes jobs u ending h = rw h
 
   -- nobody runs
-  module _ (idles : (turn t s).runner ≡ Runs.Nobody) where
+  module _ (idles : (turn t s).runner ≡ None) where
     pub idle-closes : late (closed s s.jobs) ≡ false → report t s CarryOn ≡ taken-answer s s.jobs (turn t s) Ends.GoesOn
     idle-closes h = report-as CarryOn refl idles ∙ closes s.jobs (turn t s) Ends.GoesOn h
 
@@ -185,7 +184,7 @@ module _ (t : Table) (s : State) where
     idle-objects Give = inr (report-as Give refl idles)
 
   -- the job at p does
-  module _ (p : ℕ) (runs : (turn t s).runner ≡ Runs.Job p) (said : Report) where
+  module _ (p : ℕ) (runs : (turn t s).runner ≡ Some p) (said : Report) where
     abbrev number : ℕ
     number = objection (task_at t p) (job_at s p) (held_resources s) said
 
@@ -230,8 +229,8 @@ module _ (s : State) (u : Turn) where
       go false = λ h. refl
 
   as-refuses : (t : Table) (said : Report) (r : Runner) → Refuses s (report_as t s u r said)
-  as-refuses t said Runs.Nobody = idle-refuses said
-  as-refuses t said (Runs.Job p) = run-refuses t said p
+  as-refuses t said None = idle-refuses said
+  as-refuses t said (Some p) = run-refuses t said p
 
 pub report-refused : (t : Table) (s : State) (said : Report) → ((report t s said).number ≡ 0 → ⊥) → report t s said ≡ bare (report t s said).number s
 unfolding report

@@ -10,8 +10,6 @@ use Rattle.table.specs.declared.Table.{Table}
 use Rattle.state.specs.declared.State.{State}
 use Rattle.state.specs.declared.Half.{Half}
 use Rattle.state.specs.declared.Half.TheVariants.{First, Second}
-use Rattle.state.specs.declared.Mark.{Mark}
-use Rattle.state.specs.declared.Runner.{Runner}
 use Rattle.state.specs.State.{job_at}
 use Rattle.state.specs.Order.{position_of, no_place, is_started, first_in_order}
 use Rattle.state.proofs.Laws.Order.{first-le, first_bound, place-lt}
@@ -79,7 +77,3 @@ module _ (t : Table) (s : State) (fit : positions_fit t s ≡ true) where
       go : (h : Half) → half_fits t s h ≡ half_fits_by h s.runner s.mark (eqb (runner t s) first) (turn t s)
       go First = refl
       go Second = unchanged-by
-
--- in mid-tick, over what is handed on
-pub second-by : (on : Runner) (old : Mark) (begun : Bool) (u : Turn) {h : Half} {r : Bool} → h ≡ Second → r ≡ (same_runner u.runner on && (same_mark u.mark old && begun)) → r ≡ half_fits_by h on old begun u
-second-by on old begun u e f = rw e f

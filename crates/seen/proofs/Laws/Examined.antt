@@ -1,4 +1,5 @@
 -- A consistent state, by what the test of it hands back. Assumes nothing.
+use Rattle.std.specs.Prelude.{Some}
 use Prim.Native.Nat.{ℕ, ◌^◌, ◌<◌}
 use mathlib.Core.Path.{◌≡◌, refl, sym, ap, ◌∙◌}
 use mathlib.Core.Bool.{Bool, true, false, not, ◌&&◌, and-false}
@@ -10,7 +11,6 @@ use Rattle.verdict.specs.Verdict.{answer}
 use Rattle.table.specs.declared.Table.{Table}
 use Rattle.admission.specs.Admission.{verdict}
 use Rattle.state.specs.declared.State.{State}
-use Rattle.state.specs.declared.Runner.TheVariants as Runs
 use Rattle.state.specs.State.{job_at, passes}
 use Rattle.state.specs.Order.{held_resources}
 use Rattle.choice.specs.Choice.{turn, idle}
@@ -29,7 +29,7 @@ module _ (t : Table) (s : State) where
   consistent-is = refl
 
   -- the job that runs is there
-  pub runner-there : consistent t s ≡ true → length s.jobs ≡ 16 → s.tick.0 < 2 ^ 32 → (p : ℕ) → (turn t s).runner ≡ Runs.Job p → (job_at s p).pending ≡ true
+  pub runner-there : consistent t s ≡ true → length s.jobs ≡ 16 → s.tick.0 < 2 ^ 32 → (p : ℕ) → (turn t s).runner ≡ Some p → (job_at s p).pending ≡ true
   runner-there good long small p e =
       let r = ready t s (consistent_tells t s good) long small in
       let some = runs-top t s p e in

@@ -1,4 +1,5 @@
 -- A report, by what it makes of the runner's job and by who is due. Assumes nothing.
+use Rattle.std.specs.Prelude.{Some, None}
 use Prim.Native.Nat.{ℕ, ◌^◌, ◌<◌}
 use mathlib.Core.Path.{◌≡◌, refl, sym, ap, ◌∙◌}
 use mathlib.Core.Bool.{Bool, true, false, not, cond, false≢true}
@@ -13,12 +14,10 @@ use Rattle.table.specs.declared.Table.{Table}
 use Rattle.table.specs.Table.{task_at}
 use Rattle.state.specs.declared.Job.{Job}
 use Rattle.state.specs.declared.State.{State}
-use Rattle.state.specs.declared.Runner.{Runner}
-use Rattle.state.specs.declared.Runner.TheVariants as Runs
 use Rattle.state.specs.declared.Ending.TheVariants as Ends
 use Rattle.state.specs.declared.Report.{Report}
 use Rattle.state.specs.declared.Report.TheVariants.{CarryOn, Done, Take, Give}
-use Rattle.state.specs.State.{no_job, job_at}
+use Rattle.state.specs.State.{no_job, job_at, Runner}
 use Rattle.state.specs.Order.{held_resources}
 use Rattle.state.specs.Answers.{Answer, bare}
 use Rattle.choice.specs.declared.Turn.{Turn}
@@ -53,7 +52,7 @@ answered s d u p r =
 
 module _ (t : Table) (s : State) (long : length s.jobs ≡ 16) (small : s.tick.0 < 2 ^ 32) (u : Turn) where
   -- past the end nothing changes
-  idles : (said : Report) → report_idle s u said ≡ answered s (due s) u 16 (reported_by t s Runs.Nobody (held_resources s) u.speed said)
+  idles : (said : Report) → report_idle s u said ≡ answered s (due s) u 16 (reported_by t s None (held_resources s) u.speed said)
   unfolding finished
   idles CarryOn = rw (set_out s.jobs 16 no_job (le_of_eq long), late-idle s small true)
   idles Done = refl
@@ -77,10 +76,10 @@ module _ (t : Table) (s : State) (long : length s.jobs ≡ 16) (small : s.tick.0
         go false e = sym (cond_no _ _ e)
 
 -- the whole, where the runner is pending
-pub report-by : (t : Table) (s : State) → length s.jobs ≡ 16 → s.tick.0 < 2 ^ 32 → ((p : ℕ) → (turn t s).runner ≡ Runs.Job p → (job_at s p).pending ≡ true) → (said : Report)
+pub report-by : (t : Table) (s : State) → length s.jobs ≡ 16 → s.tick.0 < 2 ^ 32 → ((p : ℕ) → (turn t s).runner ≡ Some p → (job_at s p).pending ≡ true) → (said : Report)
     → report t s said ≡ answered s (due s) (turn t s) (runner_position (turn t s).runner) (reported_by t s (turn t s).runner (held_resources s) (turn t s).speed said)
 report-by t s long small was said = by (turn t s).runner refl
   where
     by : (x : Runner) → (turn t s).runner ≡ x → report t s said ≡ answered s (due s) (turn t s) (runner_position x) (reported_by t s x (held_resources s) (turn t s).speed said)
-    by Runs.Nobody e = report-as t s said refl e ∙ idles t s long small (turn t s) said
-    by (Runs.Job p) e = report-as t s said refl e ∙ runs t s long small (turn t s) said p (runner_below t s p e) (was p e)
+    by None e = report-as t s said refl e ∙ idles t s long small (turn t s) said
+    by (Some p) e = report-as t s said refl e ∙ runs t s long small (turn t s) said p (runner_below t s p e) (was p e)

@@ -13,8 +13,7 @@ use Rattle.table.specs.declared.Task.{Task}
 use Rattle.table.specs.declared.Table.{Table}
 use Rattle.table.specs.Table.{task_at, D}
 use Rattle.state.specs.declared.State.{State}
-use Rattle.state.specs.declared.Mark.{Mark}
-use Rattle.state.specs.State.{job_at}
+use Rattle.state.specs.State.{job_at, Mark}
 use Rattle.state.specs.Order.{place_at, position_of, no_place, is_holder, last_holder}
 use Rattle.state.proofs.Laws.Order.{last_bounds, last_found}
 use Rattle.choice.specs.declared.Turn.{Turn}

@@ -1,4 +1,5 @@
 -- A fresh start. Assumes nothing.
+use Rattle.std.specs.Prelude.{None}
 use Prim.Native.Nat.{ℕ, ◌<◌}
 use mathlib.Core.Path.{◌≡◌, refl, sym, ap, ◌∙◌}
 use mathlib.Core.Bool.{cond}
@@ -21,8 +22,6 @@ use Rattle.table.proofs.Laws.Alike.{Alike}
 use Rattle.admission.specs.Admission.{verdict}
 use Rattle.admission.proofs.Laws.Alike.{verdict-same}
 use Rattle.state.specs.declared.Half.TheVariants.{First}
-use Rattle.state.specs.declared.Mark.TheVariants.{Absent}
-use Rattle.state.specs.declared.Runner.TheVariants.{Nobody}
 use Rattle.state.specs.declared.Job.{Job}
 use Rattle.state.specs.declared.State.{State}
 use Rattle.state.specs.State.{no_job, job_at, empty, passes, fresh}
@@ -39,7 +38,7 @@ none_again {l} {k} e b =
 
 -- "no jobs, no waits, no mark"
 module _ (now : Tick) where
-  pub empty-is : empty now ≡ record { tick = now; jobs = listed (λ k. no_job) 16; mark = Absent; half = First; runner = Nobody }
+  pub empty-is : empty now ≡ record { tick = now; jobs = listed (λ k. no_job) 16; mark = None; half = First; runner = None }
   unfolding empty
   empty-is = refl
 
@@ -78,7 +77,7 @@ module _ (t : Table) (now : Tick) where
 
   -- v is the verdict that was found, n its number, l the jobs and x the tick
   pub fresh_found : {v : Verdict} {n : ℕ} {l : List Job} {x : Tick} → x ≡ cond (eqb n 0) now (tick 0) → l ≡ listed (λ k. no_job) 16 → v ≡ verdict t → n ≡ (answer v).0
-      → record { verdict = v; state = record { tick = x; jobs = l; mark = Absent; half = First; runner = Nobody } } ≡ fresh t now
+      → record { verdict = v; state = record { tick = x; jobs = l; mark = None; half = First; runner = None } } ≡ fresh t now
   unfolding fresh passes empty
   fresh_found h j e m = rw (h, j, m, e)
 

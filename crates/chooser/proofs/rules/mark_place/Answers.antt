@@ -1,4 +1,4 @@
 use Rattle.chooser.proofs.rules.mark_place.Goals as goal
 
-pub returns-in-At : goal.returns-in-At
-returns-in-At c = rw c.in-At.is c.place.ensures
+pub returns-in-Some : goal.returns-in-Some
+returns-in-Some c = rw c.in-Some.is c.place.ensures

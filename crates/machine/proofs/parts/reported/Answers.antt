@@ -1,3 +1,4 @@
+use Rattle.std.specs.Prelude.{Some, None}
 use Prim.Native.Nat.{ℕ, ◌≤◌, ◌<◌}
 use mathlib.Core.Path.{◌≡◌, refl}
 use native.Mathlib.Omega.{arith}
@@ -9,9 +10,7 @@ use Rattle.state.specs.declared.Job.{Job}
 use Rattle.state.specs.declared.State.{State}
 use Rattle.state.specs.declared.Refusal.{Refusal}
 use Rattle.state.specs.declared.Report.{Report}
-use Rattle.state.specs.declared.Runner.{Runner}
-use Rattle.state.specs.declared.Runner.TheVariants as Runs
-use Rattle.state.specs.State.{no_job, job_at}
+use Rattle.state.specs.State.{no_job, job_at, Runner}
 use Rattle.report.specs.declared.Outcome.{Outcome}
 use Rattle.seen.specs.Seen.{told, job_of, runner_position, reported, reported_idle, reported_by}
 use Rattle.machine.proofs.parts.reported.Goals as goal
@@ -20,12 +19,12 @@ use Rattle.machine.proofs.parts.reported.Goals as goal
 module _ (t : Table) (s : State) (held v p : ℕ) (said : Report) (x : Result Outcome Refusal) where
   runs : (r : Runner) {task : Task} {j : Job} → told j x ≡ reported task j held v said → task ≡ task_at t p → j ≡ job_at s p → p ≡ runner_position r → p < 16
       → told (job_of s r) x ≡ reported_by t s r held v said
-  runs Runs.Nobody f g h e l = absurd (omega arith)
-  runs (Runs.Job q) {task} {j} f g h e l = rw (← e, ← h, ← g) f
+  runs None f g h e l = absurd (omega arith)
+  runs (Some q) {task} {j} f g h e l = rw (← e, ← h, ← g) f
 
-  idles : (r : Runner) → told no_job x ≡ reported_idle said → p ≡ runner_position r → 16 ≤ p → ((q : ℕ) → r ≡ Runs.Job q → q < 16) → told (job_of s r) x ≡ reported_by t s r held v said
-  idles Runs.Nobody f e l h = f
-  idles (Runs.Job q) f e l h = absurd (omega (arith, h q refl))
+  idles : (r : Runner) → told no_job x ≡ reported_idle said → p ≡ runner_position r → 16 ≤ p → ((q : ℕ) → r ≡ Some q → q < 16) → told (job_of s r) x ≡ reported_by t s r held v said
+  idles None f e l h = f
+  idles (Some q) f e l h = absurd (omega (arith, h q refl))
 
 pub returns-then-p-lt-TASKS : goal.returns-then-p-lt-TASKS
 returns-then-p-lt-TASKS c = search runs
