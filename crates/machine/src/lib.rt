@@ -16,7 +16,7 @@ pub fn release(table: Table, state: State, position: usize) -> Answer
     ensures { result ≡ release table state position }
 {
     let verdict = admission::verdict_of(table);
-    if verdict.number() != 0 {
+    if verdict::number(verdict) != 0 {
         return Answer::bare(9, state);
     }
     let found = examine(table, state);
@@ -44,7 +44,7 @@ pub fn choose(table: Table, state: State) -> Answer
     ensures { result ≡ choose table state }
 {
     let verdict = admission::verdict_of(table);
-    if verdict.number() != 0 {
+    if verdict::number(verdict) != 0 {
         return Answer::bare(9, state);
     }
     let found = examine(table, state);
@@ -75,7 +75,7 @@ pub fn report(table: Table, state: State, said: Report) -> Answer
     ensures { result ≡ report table state said }
 {
     let verdict = admission::verdict_of(table);
-    if verdict.number() != 0 {
+    if verdict::number(verdict) != 0 {
         return Answer::bare(9, state);
     }
     let found = examine(table, state);
