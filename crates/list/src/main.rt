@@ -47,12 +47,12 @@ fn fail(rt: &impl Eprint, what: &str, error: io::Error) {
 // Names the task that a table's number is about, on standard error, since the listing has the number alone.
 fn name_position(rt: &impl Eprint, file: &[u8]) {
     let verdict = admission::verdict_of(records::table(file));
-    let names_a_task = match verdict.number() {
+    let names_a_task = match verdict::number(verdict) {
         4 | 5 | 6 | 8 => true,
         _ => false,
     };
     if names_a_task && records::well_formed(file) {
-        let position = verdict.position();
+        let position = verdict::position(verdict);
         let _ = eprintln!(rt; "list: the number is that of position {position}, counted from 0");
     }
 }

@@ -16,10 +16,7 @@ mod parts;
 pub fn release(table: Table, state: State, position: usize) -> Result<Success, Refusal>
     ensures { told state result ≡ release table state position }
 {
-    let verdict = admission::verdict_of(table);
-    if verdict.number() != 0 {
-        return Err(Refusal::Inconsistent);
-    }
+    admission::verdict_of(table).map_err(|_| Refusal::Inconsistent)?;
     let found = examine(table, state);
     if !found.fits {
         return Err(Refusal::Inconsistent);
@@ -43,10 +40,7 @@ pub fn release(table: Table, state: State, position: usize) -> Result<Success, R
 pub fn choose(table: Table, state: State) -> Result<Success, Refusal>
     ensures { told state result ≡ choose table state }
 {
-    let verdict = admission::verdict_of(table);
-    if verdict.number() != 0 {
-        return Err(Refusal::Inconsistent);
-    }
+    admission::verdict_of(table).map_err(|_| Refusal::Inconsistent)?;
     let found = examine(table, state);
     if !found.fits {
         return Err(Refusal::Inconsistent);
@@ -69,10 +63,7 @@ pub fn choose(table: Table, state: State) -> Result<Success, Refusal>
 pub fn report(table: Table, state: State, said: Report) -> Result<Success, Refusal>
     ensures { told state result ≡ report table state said }
 {
-    let verdict = admission::verdict_of(table);
-    if verdict.number() != 0 {
-        return Err(Refusal::Inconsistent);
-    }
+    admission::verdict_of(table).map_err(|_| Refusal::Inconsistent)?;
     let found = examine(table, state);
     if !found.fits {
         return Err(Refusal::Inconsistent);

@@ -27,7 +27,7 @@ fn tick(table: Table, state: State, said: Report) -> Answer {
 fn fresh(rt: &impl Print, table: Table, tick: u64) -> State {
     let start = State::fresh(table, desk::tick(tick));
     let verdict = start.verdict;
-    print::fresh(rt, verdict.number(), verdict.position());
+    print::fresh(rt, verdict::number(verdict), verdict::position(verdict));
     start.state
 }
 

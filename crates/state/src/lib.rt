@@ -175,7 +175,7 @@ impl State {
     {
         let verdict = admission::verdict_of(table);
         let mut now = Tick(0);
-        if verdict.number() == 0 {
+        if verdict::number(verdict) == 0 {
             now = tick;
         }
         let jobs = no_jobs(table.count);

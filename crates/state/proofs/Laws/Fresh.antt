@@ -15,8 +15,7 @@ use Rattle.units.specs.Clock.{tick}
 use Rattle.units.specs.Folds.{listed}
 use Rattle.units.proofs.Laws.Folds.{listed_at, listed-length}
 use Rattle.units.proofs.Laws.Tests.{cond_yes, cond_no}
-use Rattle.verdict.specs.declared.Verdict.{Verdict}
-use Rattle.verdict.specs.Verdict.{answer}
+use Rattle.verdict.specs.Verdict.{Verdict, answer}
 use Rattle.table.specs.declared.Table.{Table}
 use Rattle.table.proofs.Laws.Alike.{Alike}
 use Rattle.admission.specs.Admission.{verdict}
