@@ -38,6 +38,5 @@ module _ (held d : ℕ) (l : List Ticks) (e : length l ≡ 8) where
 
 pub returns : goal.returns
 returns c =
-    let items = YieldsList-from_enumerate (YieldsList-from_slice c.args.ceilings (search rules)) (search rules) in
-    any_from_yields_List (bars c.args.held c.args.deadline.0) _ _ _ c.any.ensures.ran items (λ x b q k. search (rules, tests))
+    any_from_yields_List (bars c.args.held c.args.deadline.0) _ _ _ c.any.ensures.ran (YieldsList-from_enumerate (YieldsList-from_slice c.args.ceilings (search rules)) (search rules)) (λ x b q k. search (rules, tests))
     ∙ all_of_them c.args.held c.args.deadline.0 c.args.ceilings (search (rules, long))
