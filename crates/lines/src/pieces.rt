@@ -60,8 +60,8 @@ impl Part<'_> {
         ensures upper_bound { self.new.at ≤ self.old.at + 11 }
     {
         match who {
-            Runner::Nobody => self.text(b" -"),
-            Runner::Job(position) => self.field(position),
+            None => self.text(b" -"),
+            Some(position) => self.field(position),
         }
     }
 
