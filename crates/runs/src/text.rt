@@ -1,0 +1,170 @@
+// What is printed of the machine's values.
+use state::{Answer, Half, Job, Mark, Mode, Place, Runner, Section, Stack, State};
+use std::fmt;
+
+// A value, or '-' where there is none.
+#[derive(Clone, Copy)]
+struct OrDash<T>(Option<T>);
+
+impl<T: fmt::Display> fmt::Display for OrDash<T> {
+    fn fmt<W: fmt::Write>(&self, f: &mut fmt::Formatter<W>) -> fmt::Result {
+        match &self.0 {
+            Some(value) => write!(f, "{value}"),
+            None => f.write_str("-"),
+        }
+    }
+}
+
+fn position(runner: Runner) -> OrDash<u8> {
+    OrDash(match runner {
+        Runner::Nobody => None,
+        Runner::Job(position) => Some(position),
+    })
+}
+
+// A deadline and the position that it is marked for.
+#[derive(Clone, Copy)]
+struct PlaceText(Place);
+
+impl fmt::Display for PlaceText {
+    fn fmt<W: fmt::Write>(&self, f: &mut fmt::Formatter<W>) -> fmt::Result {
+        let Place { deadline, position } = self.0;
+        write!(f, "{}@{position}", deadline.0)
+    }
+}
+
+fn place(mark: Mark) -> OrDash<PlaceText> {
+    OrDash(match mark {
+        Mark::Absent => None,
+        Mark::At(place) => Some(PlaceText(place)),
+    })
+}
+
+// Who is chosen, in which mode and at which speed.
+#[derive(Clone, Copy)]
+pub(crate) struct Choice {
+    runner: Runner,
+    mode: Mode,
+    speed: u8,
+}
+
+impl Choice {
+    pub(crate) fn of(answer: &Answer) -> Choice {
+        Choice {
+            runner: answer.runner,
+            mode: answer.mode,
+            speed: answer.speed,
+        }
+    }
+}
+
+impl fmt::Display for Choice {
+    fn fmt<W: fmt::Write>(&self, f: &mut fmt::Formatter<W>) -> fmt::Result {
+        let mode = match self.mode {
+            Mode::Independent => 'i',
+            Mode::Synchronization => 's',
+        };
+        write!(f, "{} {mode} {}", position(self.runner), self.speed)
+    }
+}
+
+fn is_free(section: &Section) -> bool {
+    section.resource == 0 && section.steps.0 == 0
+}
+
+// The outermost section, if there is one.
+#[derive(Clone, Copy)]
+struct HeldText<'a>(&'a Stack);
+
+impl fmt::Display for HeldText<'_> {
+    fn fmt<W: fmt::Write>(&self, f: &mut fmt::Formatter<W>) -> fmt::Result {
+        let [Section { resource, steps }, ..] = self.0.sections;
+        match self.0.depth {
+            0 => f.write_str("- 0"),
+            _ => write!(f, "{resource} {}", steps.0),
+        }
+    }
+}
+
+// A job, as it is set by hand: by its own command, and by others for what that does not say of its stack.
+#[derive(Clone, Copy)]
+struct JobText<'a> {
+    position: usize,
+    job: &'a Job,
+}
+
+impl JobText<'_> {
+    fn write_own<W: fmt::Write>(&self, f: &mut fmt::Formatter<W>) -> fmt::Result {
+        let position = self.position;
+        let pending = u8::from(self.job.pending);
+        let started = u8::from(self.job.started);
+        let deadline = self.job.deadline.0;
+        let used = self.job.used.0;
+        let held = HeldText(&self.job.held);
+        let wait = self.job.wait.0;
+        write!(
+            f,
+            ", job {position} {pending} {started} {deadline} {used} {held} {wait}"
+        )
+    }
+
+    fn write_depth<W: fmt::Write>(&self, f: &mut fmt::Formatter<W>) -> fmt::Result {
+        let position = self.position;
+        match self.job.held.depth {
+            0 | 1 => Ok(()),
+            depth => write!(f, ", depth {position} {depth}"),
+        }
+    }
+
+    // The outermost section stands in the job's own command, where the job is in one.
+    fn write_sections<W: fmt::Write>(&self, f: &mut fmt::Formatter<W>) -> fmt::Result {
+        let position = self.position;
+        let stack = &self.job.held;
+        for (place, section) in stack.sections.iter().enumerate() {
+            let is_told = place == 0 && stack.depth != 0;
+            if !is_told && !is_free(section) {
+                let resource = section.resource;
+                let steps = section.steps.0;
+                write!(f, ", section {position} {place} {resource} {steps}")?;
+            }
+        }
+        Ok(())
+    }
+}
+
+impl fmt::Display for JobText<'_> {
+    fn fmt<W: fmt::Write>(&self, f: &mut fmt::Formatter<W>) -> fmt::Result {
+        self.write_own(f)?;
+        self.write_depth(f)?;
+        self.write_sections(f)
+    }
+}
+
+fn is_empty(job: &Job) -> bool {
+    let is_idle = !job.pending && !job.started && job.wait.0 == 0;
+    let has_no_work = job.deadline.0 == 0 && job.used.0 == 0;
+    is_idle && has_no_work && job.held.depth == 0 && job.held.sections.iter().all(is_free)
+}
+
+// The whole state, but for the jobs that are all 0.
+#[derive(Clone, Copy)]
+pub(crate) struct StateText<'a>(pub(crate) &'a State);
+
+impl fmt::Display for StateText<'_> {
+    fn fmt<W: fmt::Write>(&self, f: &mut fmt::Formatter<W>) -> fmt::Result {
+        let state = self.0;
+        let half = match state.half {
+            Half::First => 1,
+            Half::Second => 2,
+        };
+        let runner = position(state.runner);
+        let mark = place(state.mark);
+        write!(f, "state {} {half} {runner} {mark}", state.tick.0)?;
+        for (position, job) in state.jobs.iter().enumerate() {
+            if !is_empty(job) {
+                write!(f, "{}", JobText { position, job })?;
+            }
+        }
+        Ok(())
+    }
+}
