@@ -45,22 +45,25 @@ pub(crate) enum Command {
     Show,
 }
 
-fn ticks(token: &Token) -> Result<Ticks, NoCommand> {
-    Ok(Ticks(token.number()?))
+// What follows a word or a bar, if it is so much.
+fn exactly<const N: usize>(given: &[Token]) -> Result<[Token; N], NoCommand> {
+    <[Token; N]>::try_from(given).map_err(|_| NoCommand)
 }
 
-fn steps(token: &Token) -> Result<Steps, NoCommand> {
-    Ok(Steps(token.number()?))
+fn ticks(token: Token) -> Result<Ticks, NoCommand> {
+    token.number().map(Ticks)
 }
 
-fn tick(token: &Token) -> Result<Tick, NoCommand> {
-    Ok(Tick(token.number()?))
+fn steps(token: Token) -> Result<Steps, NoCommand> {
+    token.number().map(Steps)
+}
+
+fn tick(token: Token) -> Result<Tick, NoCommand> {
+    token.number().map(Tick)
 }
 
 fn table(given: &[Token]) -> Result<Command, NoCommand> {
-    let [full, round, count] = given else {
-        return Err(NoCommand);
-    };
+    let [full, round, count] = exactly::<3>(given)?;
     Ok(Command::Table {
         full: full.number()?,
         round: round.number()?,
@@ -77,10 +80,7 @@ fn run(given: &[Token], limits: [Steps; 8]) -> Result<Command, NoCommand> {
         budget,
         independent,
         synchronization,
-    ] = given
-    else {
-        return Err(NoCommand);
-    };
+    ] = exactly::<7>(given)?;
     let task = Task {
         period: ticks(period)?,
         deadline: ticks(deadline)?,
@@ -97,13 +97,11 @@ fn run(given: &[Token], limits: [Steps; 8]) -> Result<Command, NoCommand> {
 }
 
 fn fresh(given: &[Token]) -> Result<Command, NoCommand> {
-    match given {
-        [now] => Ok(Command::Fresh(tick(now)?)),
-        _ => Err(NoCommand),
-    }
+    let [now] = exactly::<1>(given)?;
+    Ok(Command::Fresh(tick(now)?))
 }
 
-fn half(token: &Token) -> Result<Half, NoCommand> {
+fn half(token: Token) -> Result<Half, NoCommand> {
     match token {
         Token::Number(1) => Ok(Half::First),
         Token::Number(2) => Ok(Half::Second),
@@ -111,22 +109,20 @@ fn half(token: &Token) -> Result<Half, NoCommand> {
     }
 }
 
-fn runner(token: &Token) -> Result<Runner, NoCommand> {
-    Ok(match token.number_or_none()? {
-        Some(position) => Runner::Job(position),
-        None => Runner::Nobody,
-    })
+fn runner(token: Token) -> Result<Runner, NoCommand> {
+    let position = token.number_or_none()?;
+    Ok(position.map_or(Runner::Nobody, Runner::Job))
 }
 
 fn mark(given: &[Token]) -> Result<Mark, NoCommand> {
-    match given {
-        [Token::Dash] => Ok(Mark::Absent),
-        [deadline, position] => Ok(Mark::At(Place {
-            deadline: tick(deadline)?,
-            position: position.number()?,
-        })),
-        _ => Err(NoCommand),
+    if let [Token::Dash] = given {
+        return Ok(Mark::Absent);
     }
+    let [deadline, position] = exactly::<2>(given)?;
+    Ok(Mark::At(Place {
+        deadline: tick(deadline)?,
+        position: position.number()?,
+    }))
 }
 
 fn state(given: &[Token]) -> Result<Command, NoCommand> {
@@ -134,15 +130,15 @@ fn state(given: &[Token]) -> Result<Command, NoCommand> {
         return Err(NoCommand);
     };
     Ok(Command::State {
-        tick: tick(now)?,
-        half: half(next)?,
-        runner: runner(job)?,
+        tick: tick(*now)?,
+        half: half(*next)?,
+        runner: runner(*job)?,
         mark: mark(place)?,
     })
 }
 
 // One section at the most. Where nothing is held, the steps are not looked at.
-fn held(resource: &Token, spent: &Token) -> Result<Stack, NoCommand> {
+fn held(resource: Token, spent: Token) -> Result<Stack, NoCommand> {
     let steps = steps(spent)?;
     let mut stack = Stack::EMPTY;
     if let Some(resource) = resource.number_or_none()? {
@@ -162,10 +158,7 @@ fn job(given: &[Token]) -> Result<Command, NoCommand> {
         resource,
         spent,
         wait,
-    ] = given
-    else {
-        return Err(NoCommand);
-    };
+    ] = exactly::<8>(given)?;
     let job = Job {
         pending: pending.flag()?,
         started: started.flag()?,
@@ -181,9 +174,7 @@ fn job(given: &[Token]) -> Result<Command, NoCommand> {
 }
 
 fn depth(given: &[Token]) -> Result<Command, NoCommand> {
-    let [position, depth] = given else {
-        return Err(NoCommand);
-    };
+    let [position, depth] = exactly::<2>(given)?;
     Ok(Command::Depth {
         position: position.below(16)?,
         depth: depth.number()?,
@@ -191,9 +182,7 @@ fn depth(given: &[Token]) -> Result<Command, NoCommand> {
 }
 
 fn section(given: &[Token]) -> Result<Command, NoCommand> {
-    let [position, place, resource, spent] = given else {
-        return Err(NoCommand);
-    };
+    let [position, place, resource, spent] = exactly::<4>(given)?;
     let section = Section {
         resource: resource.number()?,
         steps: steps(spent)?,
@@ -206,10 +195,8 @@ fn section(given: &[Token]) -> Result<Command, NoCommand> {
 }
 
 fn release(given: &[Token]) -> Result<Command, NoCommand> {
-    match given {
-        [position] => Ok(Command::Release(position.number()?)),
-        _ => Err(NoCommand),
-    }
+    let [position] = exactly::<1>(given)?;
+    Ok(Command::Release(position.number()?))
 }
 
 fn said(given: &[Token]) -> Result<Report, NoCommand> {
@@ -223,11 +210,8 @@ fn said(given: &[Token]) -> Result<Report, NoCommand> {
 }
 
 fn alone(command: Command, given: &[Token]) -> Result<Command, NoCommand> {
-    if given.is_empty() {
-        Ok(command)
-    } else {
-        Err(NoCommand)
-    }
+    let [] = exactly::<0>(given)?;
+    Ok(command)
 }
 
 // The command of this word, given what follows it.
@@ -241,8 +225,8 @@ fn named(word: Word, given: &[Token]) -> Result<Command, NoCommand> {
         Word::Section => section(given),
         Word::Release => release(given),
         Word::Choose => alone(Command::Choose, given),
-        Word::Report => Ok(Command::Report(said(given)?)),
-        Word::Tick => Ok(Command::Tick(said(given)?)),
+        Word::Report => said(given).map(Command::Report),
+        Word::Tick => said(given).map(Command::Tick),
         Word::Show => alone(Command::Show, given),
         Word::Carry | Word::Done | Word::Give | Word::Take => Err(NoCommand),
     }

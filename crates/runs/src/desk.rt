@@ -1,7 +1,8 @@
 // What the commands do: they set a table or a state by hand, or call the machine.
 use crate::command::Command;
 use crate::text::{Choice, StateText};
-use state::{Answer, Half, Job, Mark, Report, Runner, Section, State};
+use state::{Answer, Half, Job, Mark, Report, Runner, Section, Start, State};
+use std::io;
 use table::{Table, Task};
 use units::{Steps, Tick, Ticks};
 
@@ -51,7 +52,7 @@ impl Desk {
         Desk { table, state }
     }
 
-    // A run of equal entries, from the first to the last.
+    // A run of equal entries, from the first to the last: none where the last is before the first.
     fn set_entries(&mut self, first: usize, last: usize, task: Task) {
         if let Some(entries) = self.table.tasks.get_mut(first..=last) {
             entries.fill(task);
@@ -89,59 +90,50 @@ impl Desk {
         }
     }
 
-    fn start(&mut self, rt: &impl Print, tick: Tick) {
-        let start = State::fresh(self.table, tick);
-        let number = start.verdict.number();
-        let position = start.verdict.position();
-        let _ = println!(rt; "fresh {number} {position}");
-        self.state = start.state;
+    fn start(&mut self, rt: &impl Print, tick: Tick) -> io::Result<()> {
+        let Start { verdict, state } = State::fresh(self.table, tick);
+        self.state = state;
+        println!(rt; "fresh {} {}", verdict.number(), verdict.position())
     }
 
-    fn release(&mut self, rt: &impl Print, position: usize) {
+    fn release(&mut self, rt: &impl Print, position: usize) -> io::Result<()> {
         let now = self.state.tick.0;
         let answer = machine::release(self.table, self.state, position);
-        let number = answer.number;
-        let _ = println!(rt; "{now} release {position} {number}");
         self.state = answer.state;
+        println!(rt; "{now} release {position} {}", answer.number)
     }
 
-    fn choose(&mut self, rt: &impl Print) {
+    fn choose(&mut self, rt: &impl Print) -> io::Result<()> {
         let now = self.state.tick.0;
         let answer = machine::choose(self.table, self.state);
-        let number = answer.number;
-        let choice = Choice::of(&answer);
-        let _ = println!(rt; "{now} choose {number} {choice}");
         self.state = answer.state;
+        println!(rt; "{now} choose {} {}", answer.number, Choice::of(&answer))
     }
 
-    fn report(&mut self, rt: &impl Print, said: Report) {
+    fn report(&mut self, rt: &impl Print, said: Report) -> io::Result<()> {
         let now = self.state.tick.0;
         let answer = machine::report(self.table, self.state, said);
-        let number = answer.number;
-        let choice = Choice::of(&answer);
-        let ending = answer.ending;
-        let _ = println!(rt; "{now} report {number} {choice} {ending}");
         self.state = answer.state;
+        let choice = Choice::of(&answer);
+        println!(rt; "{now} report {} {choice} {}", answer.number, answer.ending)
     }
 
-    fn tick(&mut self, rt: &impl Print, said: Report) {
+    fn tick(&mut self, rt: &impl Print, said: Report) -> io::Result<()> {
         let now = self.state.tick.0;
         let answer = tick(self.table, self.state, said);
-        let choice = Choice::of(&answer);
-        let ending = answer.ending;
-        let _ = match answer.number {
-            0 => println!(rt; "{now} run {choice} {ending}"),
-            number => println!(rt; "{now} refused {number}"),
-        };
         self.state = answer.state;
+        match answer.number {
+            0 => println!(rt; "{now} run {} {}", Choice::of(&answer), answer.ending),
+            number => println!(rt; "{now} refused {number}"),
+        }
     }
 
-    pub(crate) fn obey(&mut self, rt: &impl Print, command: Command) {
+    // Does what is commanded. An error is one of writing the answer.
+    pub(crate) fn obey(&mut self, rt: &impl Print, command: Command) -> io::Result<()> {
         match command {
             Command::Blank => {}
             Command::Table { full, round, count } => self.table = table(full, round, count),
             Command::Run { first, last, task } => self.set_entries(first, last, task),
-            Command::Fresh(tick) => self.start(rt, tick),
             Command::State {
                 tick,
                 half,
@@ -155,13 +147,13 @@ impl Desk {
                 place,
                 section,
             } => self.set_section(position, place, section),
-            Command::Release(position) => self.release(rt, position),
-            Command::Choose => self.choose(rt),
-            Command::Report(said) => self.report(rt, said),
-            Command::Tick(said) => self.tick(rt, said),
-            Command::Show => {
-                let _ = println!(rt; "{}", StateText(&self.state));
-            }
+            Command::Fresh(tick) => return self.start(rt, tick),
+            Command::Release(position) => return self.release(rt, position),
+            Command::Choose => return self.choose(rt),
+            Command::Report(said) => return self.report(rt, said),
+            Command::Tick(said) => return self.tick(rt, said),
+            Command::Show => return println!(rt; "{}", StateText(&self.state)),
         }
+        Ok(())
     }
 }

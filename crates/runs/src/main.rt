@@ -1,9 +1,9 @@
 // Runs the machine on the commands of standard input, one to a line, and writes what it answers.
 #![tactic(auto)]
 
-use command::Command;
 use desk::Desk;
 use std::io::Read;
+use std::{io, mem};
 use token::NoCommand;
 use tokens::Tokens;
 
@@ -28,52 +28,43 @@ struct Reader {
     line: Line,
 }
 
-fn put(rt: &impl Print, byte: u8) {
-    let _ = rt.write_all(&[byte]);
-}
-
 impl Reader {
     // The line is obeyed, and another begins.
-    fn end(&mut self, rt: &impl Print, next: Tokens) {
-        let command = match self.line {
-            Line::Note => {
-                put(rt, b'\n');
-                Ok(Command::Blank)
-            }
+    fn end(&mut self, rt: &impl Print, next: Tokens) -> io::Result<()> {
+        let command = match mem::replace(&mut self.line, Line::Command(next)) {
+            Line::Note => return println!(rt),
             Line::Command(tokens) => tokens.command(),
             Line::Wrong => Err(NoCommand),
         };
         match command {
             Ok(command) => self.desk.obey(rt, command),
-            Err(error) => {
-                let _ = rt.println(error);
-            }
+            Err(error) => println!(rt; "{error}"),
         }
-        self.line = Line::Command(next);
     }
 
     // One byte more. A command ends at the end of its line or of the text, and where a run of equal entries begins. A line that starts with '#' is a note:
     // it is written as it stands, from its '#' on, to say what the answers below it are about.
-    fn read(&mut self, rt: &impl Print, byte: u8) {
+    fn read(&mut self, rt: &impl Print, byte: u8) -> io::Result<()> {
         match (byte, &mut self.line) {
             (b'\n', _) => self.end(rt, Tokens::NONE),
-            (_, Line::Note) => put(rt, byte),
+            (_, Line::Note) => rt.write_all(&[byte]),
             (b'|', _) => self.end(rt, Tokens::BAR),
-            (_, Line::Wrong) => {}
+            (_, Line::Wrong) => Ok(()),
             (b'#', Line::Command(tokens)) if tokens.is_empty() => {
-                put(rt, byte);
                 self.line = Line::Note;
+                rt.write_all(b"#")
             }
             (_, Line::Command(tokens)) => {
                 if tokens.read(byte).is_err() {
                     self.line = Line::Wrong;
                 }
+                Ok(())
             }
         }
     }
 }
 
-// The text ends at a byte 0, or where no more comes.
+// The text ends at a byte 0, or where no more comes. It is read to its end, also where an answer can't be written.
 fn main(rt: HostRuntime) {
     let mut reader = Reader {
         desk: Desk::new(),
@@ -81,7 +72,7 @@ fn main(rt: HostRuntime) {
     };
     let bytes = rt.stdin().bytes().map_while(|byte| byte.ok());
     for byte in bytes.take_while(|byte| *byte != 0) {
-        reader.read(&rt, byte);
+        let _ = reader.read(&rt, byte);
     }
-    reader.end(&rt, Tokens::NONE);
+    let _ = reader.end(&rt, Tokens::NONE);
 }

@@ -95,22 +95,17 @@ struct JobText<'a> {
 
 impl JobText<'_> {
     fn write_own<W: fmt::Write>(&self, f: &mut fmt::Formatter<W>) -> fmt::Result {
-        let position = self.position;
-        let pending = u8::from(self.job.pending);
-        let started = u8::from(self.job.started);
-        let deadline = self.job.deadline.0;
-        let used = self.job.used.0;
-        let held = HeldText(&self.job.held);
-        let wait = self.job.wait.0;
-        write!(
-            f,
-            ", job {position} {pending} {started} {deadline} {used} {held} {wait}"
-        )
+        let JobText { position, job } = self;
+        let pending = u8::from(job.pending);
+        let started = u8::from(job.started);
+        let held = HeldText(&job.held);
+        write!(f, ", job {position} {pending} {started} ")?;
+        write!(f, "{} {} {held} {}", job.deadline.0, job.used.0, job.wait.0)
     }
 
     fn write_depth<W: fmt::Write>(&self, f: &mut fmt::Formatter<W>) -> fmt::Result {
-        let position = self.position;
-        match self.job.held.depth {
+        let JobText { position, job } = self;
+        match job.held.depth {
             0 | 1 => Ok(()),
             depth => write!(f, ", depth {position} {depth}"),
         }
@@ -118,14 +113,12 @@ impl JobText<'_> {
 
     // The outermost section stands in the job's own command, where the job is in one.
     fn write_sections<W: fmt::Write>(&self, f: &mut fmt::Formatter<W>) -> fmt::Result {
-        let position = self.position;
-        let stack = &self.job.held;
-        for (place, section) in stack.sections.iter().enumerate() {
-            let is_told = place == 0 && stack.depth != 0;
-            if !is_told && !is_free(section) {
-                let resource = section.resource;
-                let steps = section.steps.0;
-                write!(f, ", section {position} {place} {resource} {steps}")?;
+        let JobText { position, job } = self;
+        let told = usize::from(job.held.depth != 0);
+        for (place, section) in job.held.sections.iter().enumerate().skip(told) {
+            if !is_free(section) {
+                let Section { resource, steps } = section;
+                write!(f, ", section {position} {place} {resource} {}", steps.0)?;
             }
         }
         Ok(())

@@ -1,5 +1,6 @@
 // What the line of a command is made of.
 use crate::word::{Letters, Word};
+use std::error::Error;
 use std::fmt;
 
 // The line is no command.
@@ -11,6 +12,8 @@ impl fmt::Display for NoCommand {
         f.write_str("no command")
     }
 }
+
+impl Error for NoCommand {}
 
 // A bar begins a run of equal entries. A dash says that there is none.
 #[derive(Clone, Copy, Debug, PartialEq, Eq)]

@@ -7,7 +7,7 @@ use crate::token::{Begun, NoCommand, Token};
 use crate::word::Letters;
 use units::Steps;
 
-// The tokens of a line, of which the last may have begun alone. No command has more but a run's: its resources and limits are taken as they come.
+// The tokens of a line, and the one that is being read. Only a run may have more: its resources and limits are taken out as they come.
 #[derive(Clone, Copy)]
 pub(crate) struct Tokens {
     all: [Token; 10],
@@ -38,12 +38,11 @@ impl Tokens {
         self.count == 0 && self.begun.is_none()
     }
 
-    // After a run's seven numbers it may have a resource and its limit.
+    // After the bar and seven numbers a run may have resources, each with its limit.
     fn take_limit(&mut self) -> Result<(), NoCommand> {
         if let (10, [Token::Bar, .., resource, limit]) = (self.count, self.all) {
-            let place = resource.number()?;
-            let steps = Steps(limit.number()?);
-            *self.limits.get_mut::<usize>(place).ok_or(NoCommand)? = steps;
+            let place: usize = resource.number()?;
+            *self.limits.get_mut(place).ok_or(NoCommand)? = Steps(limit.number()?);
             self.count = 8;
         }
         Ok(())
