@@ -91,10 +91,10 @@ listing-le file = go (well_formed file) refl
 
 -- what a listing leaves and answers; it can be taken out
 abbrev pub Listed : List ℕ → List ℕ → ℕ → List ℕ → Type 0
-Listed l file r m = (Written 131072 l (listing file) r m) × ((r ≤ length m) × (r ≡ length (take r m)))
+Listed l file r m = record { out_after : Written 131072 l (listing file) r m; upper_bound : (r ≤ length m) × (r ≡ length (take r m)) }
 
 pub listed-whole : {m : List ℕ} {r : ℕ} (l file : List ℕ) → Written 131072 l (listing file) r m → Listed l file r m
-listed-whole {m} {r} l file w = (w, counts (dec_le 131072 (length l)))
+listed-whole {m} {r} l file w = record { out_after = w; upper_bound = counts (dec_le 131072 (length l)) }
   where
     within : r ≤ length m → (r ≤ length m) × (r ≡ length (take r m))
     within h = (h, sym (length-take-le r m h))
