@@ -10,8 +10,8 @@ use Rattle.units.proofs.Laws.Folds.{listed-length, listed_at, listed-all}
 use Rattle.units.proofs.Laws.Tests.{cond_yes, cond_no}
 use Rattle.state.specs.declared.Section.{Section}
 use Rattle.state.specs.declared.Stack.{Stack}
-use Rattle.state.specs.Stack.{no_section, section_at, in_use, stacked}
-use Rattle.state.proofs.Laws.Stacks.{placed}
+use Rattle.state.specs.Stack.{no_section, in_use, stacked}
+use Rattle.state.proofs.Laws.Stacks.{placed, lent_length}
 
 module _ (f : ℕ → Section) where
   placed_in : (n k : ℕ) → k < n → placed f n k ≡ f k
@@ -53,18 +53,12 @@ module _ (f : ℕ → Section) where
 
 -- a loop over the sections in use that writes f of each at its place
 module _ (h : Stack) {l : List Section} (e : l ≡ in_use h) where
-  pub lent_length : length l ≡ min h.depth 4
-  lent_length = ap length e ∙ listed-length no_section (section_at h) (min h.depth 4)
-
-  pub lent_at : (i : ℕ) (d : Section) → i < length l → get_or l i d ≡ section_at h i
-  lent_at i d b = ap (λ (l : List Section). get_or l i d) e ∙ listed_at d (section_at h) (min h.depth 4) i (omega (arith, b, lent_length))
-
   pub placing : (f : ℕ → Section) (i : ℕ) {a : Stack} {x : Section} → i < length l → a ≡ record { depth = h.depth; sections = first_placed f i } → x ≡ f i
       → ◌≡◌ {A = Stack} (record { depth = a.depth; sections = set a.sections i x }) (record { depth = h.depth; sections = first_placed f (i + 1) })
-  placing f i b g k = rw (g, k) (ap (λ (l : List Section). record { depth = h.depth; sections = l }) (place_next f i (omega (arith, b, lent_length))))
+  placing f i b g k = rw (g, k) (ap (λ (l : List Section). record { depth = h.depth; sections = l }) (place_next f i (omega (arith, b, lent_length h e))))
 
   pub all_placed : (f : ℕ → Section) (i : ℕ) {a : Stack} → i ≤ length l → length l ≤ i → a ≡ record { depth = h.depth; sections = first_placed f i } → a ≡ stacked f h.depth
-  all_placed f i m n g = g ∙ ap (λ (l : List Section). record { depth = h.depth; sections = l }) (place_all f i h.depth (omega (arith, m, n, lent_length)))
+  all_placed f i m n g = g ∙ ap (λ (l : List Section). record { depth = h.depth; sections = l }) (place_all f i h.depth (omega (arith, m, n, lent_length h e)))
 
 -- what stands above the depth is written over
 module _ (l : List Section) (n depth : ℕ) (e : length l ≡ 4) (h : n ≡ min depth 4) where

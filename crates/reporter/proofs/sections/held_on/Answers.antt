@@ -7,7 +7,8 @@ use Rattle.table.specs.Table.{limit}
 use Rattle.state.specs.declared.Section.{Section}
 use Rattle.state.specs.Stack.{section_at}
 use Rattle.report.specs.Report.{risen}
-use Rattle.reporter.proofs.Laws.{lent_length, lent_at, placing, all_placed}
+use Rattle.state.proofs.Laws.Stacks.{lent_length, lent_at}
+use Rattle.reporter.proofs.Laws.{placing, all_placed}
 use Rattle.reporter.proofs.sections.held_on.Goals as goal
 
 risen_is : (task : Task) (v : ℕ) (x : Section) {y : Section} {most each sum : Steps} → y ≡ x → most ≡ steps (limit task y.resource) → each ≡ steps (given v)
