@@ -1,5 +1,5 @@
 -- What a call answers, by what its calls gave: the verdict of the table, then the examination of the state. Assumes nothing.
-use Rattle.std.specs.Prelude.{Some}
+use Rattle.std.specs.Prelude.{Option, Some}
 use Prim.Native.Nat.{ℕ, ◌^◌, ◌≤◌, ◌<◌}
 use mathlib.Core.Path.{◌≡◌, sym, ap, ap₂, ◌∙◌}
 use mathlib.Core.Bool.{Bool, true, false, not}
@@ -44,20 +44,20 @@ module _ (t : Table) (s : State) (p : ℕ) (good : consistent t s ≡ true) (bet
   found_free l h i = release-taken t s good between p there (rw (← e) l) ∙ rw (h, i)
 
 -- what each call gave, and what each test said of it, up to whether the state is in mid-tick
-module _ (t : Table) (s : State) {x : Examined} {h : Bool} (a : passing ≡ verdict t) (e : Some x ≡ examined t s) (g : h ≡ mid_tick s.half) where
+module _ (t : Table) (s : State) {x : Option Examined} {y : Examined} {h : Bool} (a : passing ≡ verdict t) (e : x ≡ examined t s) (f : x ≡ Some y) (g : h ≡ mid_tick s.half) where
   pub found_waiting : (p : ℕ) → h ≡ false → p < t.count → 0 < (job_at s p).wait.0 → release t s p ≡ bare 12 s
-  found_waiting p m l w = release_12 t s (fit t s e a) (sym g ∙ m) p l w
+  found_waiting p m l w = release_12 t s (fit t s e f a) (sym g ∙ m) p l w
 
   pub found_between : (said : Report) → not h ≡ true → report t s said ≡ bare 11 s
-  found_between said m = report_11 t s (fit t s e a) said (failed g m)
+  found_between said m = report_11 t s (fit t s e f a) said (failed g m)
 
 -- a choice and a report, with what the examination handed back
-module _ (t : Table) (s : State) {found : Examined} (e : Some found ≡ examined t s) where
+module _ (t : Table) (s : State) {x : Option Examined} {found : Examined} (e : x ≡ examined t s) (fits : x ≡ Some found) where
   abbrev whole : Examined
   whole = record { turn = turn t s; held = held_resources s; due = due s }
 
   is_whole : found ≡ whole
-  is_whole = handed_back t s e
+  is_whole = handed_back t s e fits
 
   pub found_choice : (next : State) → next ≡ in_mid_tick s found.turn → consistent t s ≡ true → mid_tick s.half ≡ false → chosen (record { state = next; turn = found.turn }) ≡ choose t s
   unfolding choice

@@ -1,5 +1,5 @@
 -- A consistent state, by what the test of it hands back. Assumes nothing.
-use Rattle.std.specs.Prelude.{Some, None, Err}
+use Rattle.std.specs.Prelude.{Option, Some, None, Err}
 use Prim.Native.Nat.{ℕ, ◌^◌, ◌<◌}
 use mathlib.Core.Path.{◌≡◌, refl, sym, ap, ◌∙◌}
 use mathlib.Core.Bool.{Bool, true, false, ◌&&◌, and-false}
@@ -67,12 +67,13 @@ module _ (t : Table) (s : State) where
   pub faulty : {f : Fault} → Err f ≡ verdict t → consistent t s ≡ false
   faulty {f} e = consistent-is ∙ ap (λ (b : Bool). b && fits t s) (found_passes t e refl (ne_eqb _ 0 (fault_counts f)))
 
-  pub unfit : None ≡ examined t s → consistent t s ≡ false
-  unfit e = consistent-is ∙ ap (λ (b : Bool). passes t && b) (none-unfit e) ∙ and-false (passes t)
+  module _ {x : Option Examined} (e : x ≡ examined t s) where
+    pub unfit : x ≡ None → consistent t s ≡ false
+    unfit h = consistent-is ∙ ap (λ (b : Bool). passes t && b) (none-unfit (sym h ∙ e)) ∙ and-false (passes t)
 
-  module _ {y : Examined} (e : Some y ≡ examined t s) where
-    pub fit : passing ≡ verdict t → consistent t s ≡ true
-    fit a = consistent-is ∙ and-true _ _ (found_passes t a refl refl) (some-fits e).0
+    module _ {y : Examined} (h : x ≡ Some y) where
+      pub fit : passing ≡ verdict t → consistent t s ≡ true
+      fit a = consistent-is ∙ and-true _ _ (found_passes t a refl refl) (some-fits (sym h ∙ e)).0
 
-    pub handed_back : y ≡ whole
-    handed_back = (some-fits e).1
+      pub handed_back : y ≡ whole
+      handed_back = (some-fits (sym h ∙ e)).1
