@@ -33,33 +33,27 @@ fn half_fits(half: Half, on: Runner, old: Mark, begun: bool, turn: Turn) -> bool
     }
 }
 
-// Whether a state fits a table, and then its turn, what is held and who is due.
-pub fn examine(table: Table, state: State) -> Examined
+// Of a state that fits a table: its turn, what is held and who is due.
+pub fn examine(table: Table, state: State) -> Option<Examined>
     ensures { result ≡ examined table state }
 {
-    let walked = walks::walk(table, state);
-    if !walked.fits {
-        return Examined::UNFIT;
-    }
+    let seen = walks::walk(table, state)?;
     let mark = state.mark;
     if !mark_fits(table.count, state.tick, mark) {
-        return Examined::UNFIT;
+        return None;
     }
-    let seen = walked.seen;
-    let mut run = seen.top;
-    if !turns::is_free(seen) {
-        run = turns::run_place(table, seen);
-    }
+    let run = if turns::is_free(seen) {
+        seen.top
+    } else {
+        turns::run_place(table, seen)
+    };
     let turn = turns::turn(table, state, seen, run);
-    let half = state.half;
-    let on = state.runner;
-    if !half_fits(half, on, mark, run == seen.started, turn) {
-        return Examined::UNFIT;
+    if !half_fits(state.half, state.runner, mark, run == seen.started, turn) {
+        return None;
     }
-    Examined {
-        fits: true,
+    Some(Examined {
         turn,
         held: seen.held,
         due: seen.due,
-    }
+    })
 }

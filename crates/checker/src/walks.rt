@@ -5,13 +5,13 @@ ghost use Rattle.seen.specs.Seen.{walked};
 
 use crate::jobs;
 use chooser::gather;
-use seen::{Seen, Walked};
+use seen::Seen;
 use state::State;
 use table::{Table, Task};
 
 // Each place fits, and no resource is held by two jobs; and what the choice and the report need to know.
 // A resource that fits is one of 8, so that the set tells of each that has been met.
-pub(crate) fn walk(table: Table, state: State) -> Walked
+pub(crate) fn walk(table: Table, state: State) -> Option<Seen>
     ensures { result ≡ walked table state }
 {
     let mut seen = Seen::NOTHING;
@@ -20,19 +20,19 @@ pub(crate) fn walk(table: Table, state: State) -> Walked
             let task = table.tasks[k];
             let held = job.held;
             if !jobs::fits(task, state.tick, job) {
-                return Walked::UNFIT;
+                return None;
             }
             if jobs::is_taken(seen.held, held) {
-                return Walked::UNFIT;
+                return None;
             }
             seen = gather::seen_with(seen, state.tick, job, k as u8);
         } else {
             if !jobs::unused(job) {
-                return Walked::UNFIT;
+                return None;
             }
         }
     }
-    Walked { fits: true, seen }
+    Some(seen)
 }
 
 pub(crate) fn task_at(table: Table, position: u8) -> Task

@@ -16,11 +16,8 @@ mod parts;
 pub fn release(table: Table, state: State, position: usize) -> Result<Success, Refusal>
     ensures { told state result ≡ release table state position }
 {
-    admission::verdict_of(table).map_err(|_| Refusal::Inconsistent)?;
-    let found = examine(table, state);
-    if !found.fits {
-        return Err(Refusal::Inconsistent);
-    }
+    admission::verdict_of(table)?;
+    examine(table, state).ok_or(Refusal::Inconsistent)?;
     if parts::mid_tick(state.half) {
         return Err(Refusal::WrongHalf);
     }
@@ -40,11 +37,8 @@ pub fn release(table: Table, state: State, position: usize) -> Result<Success, R
 pub fn choose(table: Table, state: State) -> Result<Success, Refusal>
     ensures { told state result ≡ choose table state }
 {
-    admission::verdict_of(table).map_err(|_| Refusal::Inconsistent)?;
-    let found = examine(table, state);
-    if !found.fits {
-        return Err(Refusal::Inconsistent);
-    }
+    admission::verdict_of(table)?;
+    let found = examine(table, state).ok_or(Refusal::Inconsistent)?;
     if parts::mid_tick(state.half) {
         return Err(Refusal::WrongHalf);
     }
@@ -63,11 +57,8 @@ pub fn choose(table: Table, state: State) -> Result<Success, Refusal>
 pub fn report(table: Table, state: State, said: Report) -> Result<Success, Refusal>
     ensures { told state result ≡ report table state said }
 {
-    admission::verdict_of(table).map_err(|_| Refusal::Inconsistent)?;
-    let found = examine(table, state);
-    if !found.fits {
-        return Err(Refusal::Inconsistent);
-    }
+    admission::verdict_of(table)?;
+    let found = examine(table, state).ok_or(Refusal::Inconsistent)?;
     if !parts::mid_tick(state.half) {
         return Err(Refusal::WrongHalf);
     }

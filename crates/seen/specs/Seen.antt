@@ -1,14 +1,14 @@
 -- Ask 2: "The choice walks the tasks once for top and again for the first started job. [..] Do both in one pass, with fewer locals. No answer changes." What that pass gathers and the calls are handed of it: each number is one of document 01's, and proofs/Laws shows that the rules follow from the numbers.
-use Rattle.std.specs.Prelude.{ℕ, min, max, Some, None, Ok, Err, Result}
-use mathlib.Core.{Bool.Bool, Bool.true, Bool.false, Bool.not, Bool.◌&&◌, Bool.◌||◌, Bool.cond, List.List}
+use Rattle.std.specs.Prelude.{ℕ, min, max, Option, Some, None, Ok, Err, Result}
+use mathlib.Core.{Bool.Bool, Bool.not, Bool.◌&&◌, Bool.◌||◌, Bool.cond, List.List}
 use lib.{ListN.get_or, Dec.ltb, Dec.leb, Dec.eqb}
 use Rattle.units.specs.{declared.Ticks.Ticks, Amounts.ticks, Clock.distance, Folds.smallest, Folds.some, Sets.set, Sets.has, Sets.with}
 use Rattle.table.specs.{declared.Task.Task, declared.Table.Table, Table.task_at, Table.D}
 use Rattle.state.specs.{declared.Job.Job, declared.State.State, State.Mark, declared.Half.Half, declared.Half.TheVariants.First, declared.Half.TheVariants.Second, State.Runner, declared.Refusal.Refusal, declared.Ending.Ending, declared.Report.Report, declared.Report.TheVariants.CarryOn, declared.Report.TheVariants.Done, declared.Report.TheVariants.Take, declared.Report.TheVariants.Give, State.no_job, State.job_at, Order.place, Order.place_at, Order.no_place, Order.is_started, Order.holds_any, Order.first_in_order, Order.last_holder, Order.held_resources, Order.with_held, Answers.refusal_number}
-use Rattle.choice.specs.{declared.Turn.Turn, Choice.top, Choice.fastest, Choice.mark_place, Choice.mark_at, Choice.synchronized, Choice.no_holder_behind, Choice.idle, Choice.turn}
+use Rattle.choice.specs.{declared.Turn.Turn, Choice.top, Choice.fastest, Choice.mark_place, Choice.mark_at, Choice.synchronized, Choice.no_holder_behind, Choice.turn}
 use Rattle.report.specs.{declared.Outcome.Outcome, Report.worked, Report.settled, Report.objection}
 use Rattle.consistency.specs.Consistency.{positions_fit, mark_fits, half_fits, same_runner, same_mark}
-use Rattle.seen.specs.{declared.Seen.Seen, declared.Walked.Walked, declared.Examined.Examined}
+use Rattle.seen.specs.{declared.Seen.Seen, declared.Examined.Examined}
 use Rattle.state.specs.declared.Ending.TheVariants as Ends
 
 -- a pending job that stands a tick before its deadline, and the positions of all such
@@ -33,9 +33,9 @@ seen_with now j k x =
     (record { held = with_held x.held j.held; due = cond (eqb (distance now j.deadline.0) 1) (with x.due k) x.due; top = min x.top at; started = cond j.started (min x.started at) x.started; last = cond (holds_any j.held) (max x.last at) x.last })
     x
 
--- whether each place fits, and then what was seen
-unfoldable pub walked : Table → State → Walked
-walked t s = cond (positions_fit t s) (record { fits = true; seen = seen s }) (record { fits = false; seen = nothing_seen })
+-- what was seen, if each place fits
+unfoldable pub walked : Table → State → Option Seen
+walked t s = cond (positions_fit t s) (Some (seen s)) None
 
 -- nothing is held, or top is started (or nobody is there): top is not blocked, and the ceilings need not be asked for
 unfoldable pub is_free : Seen → Bool
@@ -73,11 +73,9 @@ half_fits_by Second on old begun u = same_runner u.runner on && (same_mark u.mar
 unfoldable pub fits : Table → State → Bool
 fits t s = positions_fit t s && (mark_fits t.count s.tick.0 s.mark && half_fits t s s.half)
 
--- what the test hands back: the turn, what is held, who is due
-unfoldable pub examined : Table → State → Examined
-examined t s =
-    cond (fits t s) (record { fits = true; turn = turn t s; held = held_resources s; due = due s })
-    (record { fits = false; turn = idle; held = 0; due = 0 })
+-- what the test hands back of a state that fits: the turn, what is held, who is due
+unfoldable pub examined : Table → State → Option Examined
+examined t s = cond (fits t s) (Some (record { turn = turn t s; held = held_resources s; due = due s })) None
 
 -- the runner's position; 16 where nobody runs
 abbrev pub runner_position : Runner → ℕ

@@ -14,17 +14,9 @@ pub struct Seen {
     pub last: u64,
 }
 
-// Whether each place fits, and then what was seen.
-#[derive(Clone, Copy)]
-pub struct Walked {
-    pub fits: bool,
-    pub seen: Seen,
-}
-
-// Whether a state fits a table, and then its turn, the resources that are held, and who is due.
+// Of a state that fits a table: its turn, the resources that are held, and who is due.
 #[derive(Clone, Copy)]
 pub struct Examined {
-    pub fits: bool,
     pub turn: Turn,
     pub held: u16,
     pub due: u16,
@@ -37,21 +29,5 @@ impl Seen {
         top: State::NO_PLACE,
         started: State::NO_PLACE,
         last: 0,
-    };
-}
-
-impl Walked {
-    pub const UNFIT: Walked = Walked {
-        fits: false,
-        seen: Seen::NOTHING,
-    };
-}
-
-impl Examined {
-    pub const UNFIT: Examined = Examined {
-        fits: false,
-        turn: Turn::IDLE,
-        held: 0,
-        due: 0,
     };
 }

@@ -1,5 +1,5 @@
 -- What a call answers, by what its calls gave: the verdict of the table, then the examination of the state. Assumes nothing.
-use Rattle.std.specs.Prelude.{Some}
+use Rattle.std.specs.Prelude.{Option, Some}
 use Prim.Native.Nat.{ℕ, ◌^◌, ◌≤◌, ◌<◌}
 use mathlib.Core.Path.{◌≡◌, sym, ap, ap₂, ◌∙◌}
 use mathlib.Core.Bool.{Bool, true, false, not}
@@ -7,7 +7,7 @@ use native.Mathlib.Omega.{arith}
 use lib.ListN.{length, set}
 use borrow.Author.Tests.{eq-eqb, ne_eqb}
 use Rattle.units.proofs.Laws.Tests.{failed, cond_yes, cond_no}
-use Rattle.verdict.specs.Verdict.{Verdict, answer}
+use Rattle.verdict.specs.Verdict.{Verdict, passing, answer}
 use Rattle.table.specs.declared.Task.{Task}
 use Rattle.table.specs.declared.Table.{Table}
 use Rattle.table.specs.Table.{task_at}
@@ -30,9 +30,9 @@ use Rattle.seen.proofs.Laws.Reports.{answered, report-by}
 use Rattle.machine.specs.Machine.{mid_tick, released, release, chosen, choose, report}
 use Rattle.machine.proofs.Laws.Calls.{report_11, release_12, release-taken, choose_makes, report-runs}
 
--- a position in a table that passed is below 16
-pub found_place : (t : Table) {p : ℕ} {v : Verdict} {n : ℕ} → p < t.count → v ≡ verdict t → n ≡ (answer v).0 → n ≡ 0 → p < 16
-found_place t l e f z = let few = (admitted t (ap (λ (v : Verdict). (answer v).0) (sym e) ∙ sym f ∙ z)).count.high in omega arith
+-- a position in a table that passes is below 16
+pub found_place : (t : Table) → passing ≡ verdict t → {p : ℕ} → p < t.count → p < 16
+found_place t e l = let few = (admitted t (ap (λ (v : Verdict). (answer v).0) (sym e))).count.high in omega arith
 
 -- a release, with the job and the task at its position found
 module _ (t : Table) (s : State) (p : ℕ) (good : consistent t s ≡ true) (between : mid_tick s.half ≡ false) (there : p < t.count) {j : Job} (e : j ≡ job_at s p) where
@@ -44,18 +44,17 @@ module _ (t : Table) (s : State) (p : ℕ) (good : consistent t s ≡ true) (bet
   found_free l h i = release-taken t s good between p there (rw (← e) l) ∙ rw (h, i)
 
 -- what each call gave, and what each test said of it, up to whether the state is in mid-tick
-module _ (t : Table) (s : State) {v : Verdict} {n : ℕ} {x : Examined} {h : Bool} (a : v ≡ verdict t) (b : n ≡ (answer v).0) (z : n ≡ 0) (e : x ≡ examined t s)
-    (f : not x.fits ≡ false) (g : h ≡ mid_tick s.half) where
+module _ (t : Table) (s : State) {x : Option Examined} {y : Examined} {h : Bool} (a : passing ≡ verdict t) (e : x ≡ examined t s) (f : x ≡ Some y) (g : h ≡ mid_tick s.half) where
   pub found_waiting : (p : ℕ) → h ≡ false → p < t.count → 0 < (job_at s p).wait.0 → release t s p ≡ bare 12 s
-  found_waiting p m l w = release_12 t s (fit t s e f a b z) (sym g ∙ m) p l w
+  found_waiting p m l w = release_12 t s (fit t s e f a) (sym g ∙ m) p l w
 
   pub found_between : (said : Report) → not h ≡ true → report t s said ≡ bare 11 s
-  found_between said m = report_11 t s (fit t s e f a b z) said (failed g m)
+  found_between said m = report_11 t s (fit t s e f a) said (failed g m)
 
 -- a choice and a report, with what the examination handed back
-module _ (t : Table) (s : State) {found : Examined} (e : found ≡ examined t s) (fits : not found.fits ≡ false) where
+module _ (t : Table) (s : State) {x : Option Examined} {found : Examined} (e : x ≡ examined t s) (fits : x ≡ Some found) where
   abbrev whole : Examined
-  whole = record { fits = true; turn = turn t s; held = held_resources s; due = due s }
+  whole = record { turn = turn t s; held = held_resources s; due = due s }
 
   is_whole : found ≡ whole
   is_whole = handed_back t s e fits

@@ -1,18 +1,20 @@
 -- A consistent state, by what the test of it hands back. Assumes nothing.
-use Rattle.std.specs.Prelude.{Some}
+use Rattle.std.specs.Prelude.{Option, Some, None, Err}
 use Prim.Native.Nat.{ℕ, ◌^◌, ◌<◌}
 use mathlib.Core.Path.{◌≡◌, refl, sym, ap, ◌∙◌}
-use mathlib.Core.Bool.{Bool, true, false, not, ◌&&◌, and-false}
+use mathlib.Core.Bool.{Bool, true, false, ◌&&◌, and-false}
 use lib.ListN.{length}
-use borrow.Author.Tests.{eq-eqb, ne_eqb}
-use Rattle.units.proofs.Laws.Tests.{passed, failed, and-true}
-use Rattle.verdict.specs.Verdict.{Verdict, answer}
+use borrow.Author.Tests.{ne_eqb}
+use Rattle.units.proofs.Laws.Tests.{and-true}
+use Rattle.verdict.specs.declared.Fault.{Fault}
+use Rattle.verdict.specs.Verdict.{passing}
+use Rattle.verdict.proofs.Laws.{fault_counts}
 use Rattle.table.specs.declared.Table.{Table}
 use Rattle.admission.specs.Admission.{verdict}
 use Rattle.state.specs.declared.State.{State}
 use Rattle.state.specs.State.{job_at, passes}
 use Rattle.state.specs.Order.{held_resources}
-use Rattle.choice.specs.Choice.{turn, idle}
+use Rattle.choice.specs.Choice.{turn}
 use Rattle.choice.proofs.Laws.Choice.{runner-is, runner-pending}
 use Rattle.choice.proofs.Laws.Runner.{named, runs-top}
 use Rattle.consistency.specs.Consistency.{consistent}
@@ -34,39 +36,44 @@ module _ (t : Table) (s : State) where
       let some = runs-top t s p e in
       rw (named (sym e ∙ runner-is t s r some)) (runner-pending t s r some)
 
-  pub examined-fits : fits t s ≡ true → examined t s ≡ record { fits = true; turn = turn t s; held = held_resources s; due = due s }
+  -- what the test hands back of a state that fits
+  abbrev whole : Examined
+  whole = record { turn = turn t s; held = held_resources s; due = due s }
+
+  pub examined-fits : fits t s ≡ true → examined t s ≡ Some whole
   unfolding examined
   examined-fits h = rw h
 
-  pub examined_unfit : fits t s ≡ false → examined t s ≡ record { fits = false; turn = idle; held = 0; due = 0 }
+  pub examined_unfit : fits t s ≡ false → examined t s ≡ None
   unfolding examined
   examined_unfit h = rw h
 
-  fits-is : (examined t s).fits ≡ fits t s
-  fits-is = go (fits t s) refl
+  -- nothing is handed back of a state that does not fit, and that of one that does
+  none-unfit : None ≡ examined t s → fits t s ≡ false
+  none-unfit e = go (fits t s) refl
     where
-      go : (b : Bool) → fits t s ≡ b → (examined t s).fits ≡ fits t s
-      go true e = ap (λ (x : Examined). x.fits) (examined-fits e) ∙ sym e
-      go false e = ap (λ (x : Examined). x.fits) (examined_unfit e) ∙ sym e
+      go : (b : Bool) → fits t s ≡ b → fits t s ≡ false
+      go true h = let z : None ≡ Some whole = e ∙ examined-fits h in cc
+      go false h = h
 
-  -- the number of the verdict, and then what the test handed back
-  module _ {v : Verdict} {n : ℕ} (e : v ≡ verdict t) (f : n ≡ (answer v).0) where
-    pub bad_table : (n ≡ 0 → ⊥) → consistent t s ≡ false
-    bad_table h = consistent-is ∙ ap (λ (b : Bool). b && fits t s) (found_passes t e f (ne_eqb n 0 h))
+  some-fits : {y : Examined} → Some y ≡ examined t s → (fits t s ≡ true) × (y ≡ whole)
+  some-fits {y} e = go (fits t s) refl
+    where
+      go : (b : Bool) → fits t s ≡ b → (fits t s ≡ true) × (y ≡ whole)
+      go true h = let z : Some y ≡ Some whole = e ∙ examined-fits h in (h, cc)
+      go false h = let z : Some y ≡ None = e ∙ examined_unfit h in (cc, cc)
 
-    good_table : n ≡ 0 → passes t ≡ true
-    good_table h = found_passes t e f (eq-eqb n 0 h)
+  -- a table with a fault, and then what the test of the state hands back
+  pub faulty : {f : Fault} → Err f ≡ verdict t → consistent t s ≡ false
+  faulty {f} e = consistent-is ∙ ap (λ (b : Bool). b && fits t s) (found_passes t e refl (ne_eqb _ 0 (fault_counts f)))
 
-  module _ {x : Examined} (e : x ≡ examined t s) where
-    told-fits : x.fits ≡ fits t s
-    told-fits = ap (λ (x : Examined). x.fits) e ∙ fits-is
+  module _ {x : Option Examined} (e : x ≡ examined t s) where
+    pub unfit : x ≡ None → consistent t s ≡ false
+    unfit h = consistent-is ∙ ap (λ (b : Bool). passes t && b) (none-unfit (sym h ∙ e)) ∙ and-false (passes t)
 
-    pub unfit : not x.fits ≡ true → consistent t s ≡ false
-    unfit h = consistent-is ∙ ap (λ (b : Bool). passes t && b) (failed told-fits h) ∙ and-false (passes t)
+    module _ {y : Examined} (h : x ≡ Some y) where
+      pub fit : passing ≡ verdict t → consistent t s ≡ true
+      fit a = consistent-is ∙ and-true _ _ (found_passes t a refl refl) (some-fits (sym h ∙ e)).0
 
-    module _ (h : not x.fits ≡ false) where
-      pub fit : {v : Verdict} {n : ℕ} → v ≡ verdict t → n ≡ (answer v).0 → n ≡ 0 → consistent t s ≡ true
-      fit a b z = consistent-is ∙ and-true _ _ (good_table a b z) (passed told-fits h)
-
-      pub handed_back : x ≡ record { fits = true; turn = turn t s; held = held_resources s; due = due s }
-      handed_back = e ∙ examined-fits (passed told-fits h)
+      pub handed_back : y ≡ whole
+      handed_back = (some-fits (sym h ∙ e)).1

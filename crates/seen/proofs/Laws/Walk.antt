@@ -1,4 +1,5 @@
 -- The pass that tests each place as it goes: its two ends, and one place more. Assumes nothing.
+use Rattle.std.specs.Prelude.{Some, None}
 use Prim.Native.Nat.{ℕ, ◌+◌, ◌≤◌, ◌<◌}
 use mathlib.Core.Path.{◌≡◌, refl, sym, ap, ◌∙◌}
 use mathlib.Core.Bool.{Bool, true, false, not, ◌&&◌}
@@ -20,12 +21,8 @@ use Rattle.consistency.proofs.Laws.Jobs.{job_tells, unused_tells}
 use Rattle.consistency.proofs.Laws.Places.{fitting, walk_none, walk_unfit, walk_taken, walk_next, walk_end}
 use Rattle.consistency.proofs.Laws.Places as Places
 use Rattle.seen.specs.declared.Seen.{Seen}
-use Rattle.seen.specs.declared.Walked.{Walked}
 use Rattle.seen.specs.Seen.{nothing_seen, seen_with, walked}
 use Rattle.seen.proofs.Laws.Pass.{seen_to, with_none, seen_none, seen-held, seen_past, seen_next, seen-whole}
-
-abbrev unfit : Walked
-unfit = record { fits = false; seen = nothing_seen }
 
 -- whether a place in the table fits, and one past it: of the job that is read there
 abbrev used_fits : Table → State → ℕ → Bool
@@ -43,15 +40,15 @@ module _ (t : Table) (s : State) where
   pub pass_none : Passing nothing_seen 0
   pass_none = record { places = walk_none t s; same = seen_none s }
 
-  walked_unfit : false ≡ positions_fit t s → unfit ≡ walked t s
+  walked_unfit : false ≡ positions_fit t s → None ≡ walked t s
   unfolding walked
   walked_unfit e = sym (cond_no _ _ (sym e))
 
-  pub pass_end : {x : Seen} {n : ℕ} → Passing x n → 16 ≤ n → ◌≡◌ {A = Walked} (record { fits = true; seen = x }) (walked t s)
+  pub pass_end : {x : Seen} {n : ℕ} → Passing x n → 16 ≤ n → Some x ≡ walked t s
   unfolding walked
   pass_end {x} {n} w l =
       let e : n ≡ 16 = omega (arith, w.places.within) in
-      ap (λ (x : Seen). record { fits = true; seen = x }) (w.same ∙ ap (seen_to s) e ∙ seen-whole s) ∙ sym (cond_yes _ _ (sym (walk_end t s w.places l)))
+      ap Some (w.same ∙ ap (seen_to s) e ∙ seen-whole s) ∙ sym (cond_yes _ _ (sym (walk_end t s w.places l)))
 
   module _ {n : ℕ} {r : Bool} (b : n < 16) where
     used : n < t.count → r ≡ used_fits t s n → r ≡ fitting t s n (read_at s n)
@@ -60,14 +57,14 @@ module _ (t : Table) (s : State) where
     past : t.count ≤ n → r ≡ past_fits s n → r ≡ fitting t s n (read_at s n)
     past l e = e ∙ ap (λ (a : Bool). stack_fits (read_at s n).held && a) (sym (cond_no _ _ (le-ltb _ _ l)))
 
-    pub pass_unfit : not r ≡ true → r ≡ used_fits t s n → n < t.count → unfit ≡ walked t s
+    pub pass_unfit : not r ≡ true → r ≡ used_fits t s n → n < t.count → None ≡ walked t s
     pass_unfit h e l = walked_unfit (walk_unfit t s b (failed (used l e) h))
 
-    pub pass_in_use : not r ≡ true → r ≡ past_fits s n → t.count ≤ n → unfit ≡ walked t s
+    pub pass_in_use : not r ≡ true → r ≡ past_fits s n → t.count ≤ n → None ≡ walked t s
     pass_in_use h e l = walked_unfit (walk_unfit t s b (failed (past l e) h))
 
     module _ {x : Seen} (w : Passing x n) where
-      pub pass_taken : r ≡ true → r ≡ is_taken x.held (read_at s n).held → unfit ≡ walked t s
+      pub pass_taken : r ≡ true → r ≡ is_taken x.held (read_at s n).held → None ≡ walked t s
       pass_taken h e = walked_unfit (walk_taken t s b w.places (sym e ∙ h))
 
       pub pass_next : {y z : Seen} {f : Bool} → y ≡ z → z ≡ seen_with s.tick.0 (read_at s n) n x → f ≡ false → f ≡ is_taken x.held (read_at s n).held
