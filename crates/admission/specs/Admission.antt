@@ -1,10 +1,9 @@
 -- The admission test: which of the answers 0 and 2 to 8 a table gets.
-use Rattle.std.specs.Prelude.{ℕ, zero, suc, ◌+◌, ◌*◌, ◌/◌, ◌%◌, Bool, not, ◌&&◌, cond, ltb, leb, eqb}
+use Rattle.std.specs.Prelude.{ℕ, zero, suc, ◌+◌, ◌*◌, ◌/◌, ◌%◌, Bool, not, ◌&&◌, cond, ltb, leb, eqb, Err}
 use Rattle.units.specs.Amounts.{up, given}
 use Rattle.units.specs.Folds.{sum, largest, all, first}
-use Rattle.verdict.specs.declared.Verdict.{Verdict}
-use Rattle.verdict.specs.declared.Verdict.TheVariants.{Passed, Count, Setting, Range, Divisor, Order, Independent, Synchronization}
-use Rattle.verdict.specs.Verdict.{answer}
+use Rattle.verdict.specs.declared.Fault.TheVariants.{Count, Setting, Range, Divisor, Order, Independent, Synchronization}
+use Rattle.verdict.specs.Verdict.{Verdict, passing, answer}
 use Rattle.table.specs.declared.Task.{Task}
 use Rattle.table.specs.declared.Table.{Table}
 use Rattle.table.specs.Table.{task_at, D, C, I, S, limit, ceiling}
@@ -44,9 +43,9 @@ in_range full task =
 -- of a task at k, after one whose D is `before`: 4, then 5, "D does not divide G", then 6, "D smaller than that of the position before"
 unfoldable pub fault : ℕ → ℕ → ℕ → Task → ℕ → Verdict
 fault full round before task k =
-    cond (not (in_range full task)) (Range k)
-    (cond (not (eqb (round % task.deadline.0) 0)) (Divisor k)
-    (cond (ltb task.deadline.0 before) (Order k) Passed))
+    cond (not (in_range full task)) (Err (Range k))
+    (cond (not (eqb (round % task.deadline.0) 0)) (Err (Divisor k))
+    (cond (ltb task.deadline.0 before) (Err (Order k)) passing))
 
 -- D of "the position before"; 0 before the first
 abbrev pub previous : Table → ℕ → ℕ
@@ -65,9 +64,9 @@ unfoldable pub overloaded : Table → ℕ → Bool
 overloaded t i = ltb t.round (synchronization_sum t i)
 
 unfoldable pub sums : Table → Verdict
-sums t = cond (ltb t.round (independent_sum t)) Independent (first (overloaded t) Synchronization Passed t.count)
+sums t = cond (ltb t.round (independent_sum t)) (Err Independent) (first (overloaded t) (λ i. Err (Synchronization i)) passing t.count)
 
 -- "Order for a table: 2, 3, then for the lowest faulty position 4, 5, 6, then 7, 8."
 unfoldable pub verdict : Table → Verdict
 verdict t =
-    cond (not (count_in_range t)) Count (cond (not (setting_in_range t)) Setting (first (faulty t) (fault_at t) (sums t) t.count))
+    cond (not (count_in_range t)) (Err Count) (cond (not (setting_in_range t)) (Err Setting) (first (faulty t) (fault_at t) (sums t) t.count))

@@ -5,7 +5,7 @@ ghost use Rattle.std.specs.Prelude.{◌≡◌};
 ghost use Rattle.admission.specs.Admission.{verdict};
 
 use table::Table;
-use verdict::Verdict;
+use verdict::{Fault, Verdict};
 
 mod blocking;
 mod ranges;
@@ -16,29 +16,26 @@ pub fn verdict_of(t: Table) -> Verdict
     ensures { result ≡ verdict t }
 {
     if t.count < 1 {
-        return Verdict::Count;
+        return Err(Fault::Count);
     }
     if Table::TASKS < t.count {
-        return Verdict::Count;
+        return Err(Fault::Count);
     }
     if t.full < 1 {
-        return Verdict::Setting;
+        return Err(Fault::Setting);
     }
     if Table::FULL < t.full {
-        return Verdict::Setting;
+        return Err(Fault::Setting);
     }
     if t.round < 1 {
-        return Verdict::Setting;
+        return Err(Fault::Setting);
     }
     if Table::ROUND < t.round {
-        return Verdict::Setting;
+        return Err(Fault::Setting);
     }
-    let fault = ranges::first_fault(t);
-    if fault.number() != 0 {
-        return fault;
-    }
+    ranges::first_fault(t)?;
     if (t.round as u64) < sums::independent_sum(t) {
-        return Verdict::Independent;
+        return Err(Fault::Independent);
     }
     let deadlines = blocking::deadlines(t);
     let ceilings = t.ceilings();

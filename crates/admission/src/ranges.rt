@@ -3,11 +3,11 @@ ghost use Rattle.std.specs.Prelude.{◌≡◌, ◌≤◌, leb};
 ghost use Rattle.units.specs.Folds.{all, first};
 ghost use Rattle.table.specs.Table.{limit};
 ghost use Rattle.admission.specs.Admission.{in_range, fault, fault_at, faulty};
-ghost use Rattle.verdict.specs.declared.Verdict.TheVariants.{Passed};
+ghost use Rattle.verdict.specs.Verdict.{passing};
 
 use table::{Table, Task};
 use units::Ticks;
-use verdict::Verdict;
+use verdict::{Fault, Verdict};
 
 fn limits_in_range(task: Task) -> bool
     ensures { result ≡ all (λ r. leb (limit task r) task.budget.0) 8 }
@@ -49,31 +49,28 @@ fn fault_of(full: u8, round: u32, previous: Ticks, task: Task, position: usize) 
     ensures { result ≡ fault full round previous.0 task position }
 {
     if !in_range(full, task) {
-        return Verdict::Range(position);
+        return Err(Fault::Range(position));
     }
     if round % (task.deadline.0 as u32) != 0 {
-        return Verdict::Divisor(position);
+        return Err(Fault::Divisor(position));
     }
     if task.deadline.0 < previous.0 {
-        return Verdict::Order(position);
+        return Err(Fault::Order(position));
     }
-    Verdict::Passed
+    Ok(())
 }
 
 // What is wrong with the lowest faulty position.
 pub(crate) fn first_fault(t: Table) -> Verdict
     requires { t.count ≤ 16 }
-    ensures { result ≡ first (faulty t) (fault_at t) Passed t.count }
+    ensures { result ≡ first (faulty t) (fault_at t) passing t.count }
 {
     let n = t.count;
     let mut previous = Ticks(0);
     for k in 0..n {
         let task = t.tasks[k];
-        let found = fault_of(t.full, t.round, previous, task, k);
-        if found.number() != 0 {
-            return found;
-        }
+        fault_of(t.full, t.round, previous, task, k)?;
         previous = task.deadline;
     }
-    Verdict::Passed
+    Ok(())
 }

@@ -1,13 +1,14 @@
 // Numbers 7 and 8: what a round is asked for.
-ghost use Rattle.std.specs.Prelude.{◌≡◌, ℕ, ◌≤◌, ◌<◌, ◌*◌, get_or};
+ghost use Rattle.std.specs.Prelude.{◌≡◌, ℕ, ◌≤◌, ◌<◌, ◌*◌, get_or, Err};
 ghost use Rattle.units.specs.Amounts.{steps};
 ghost use Rattle.units.specs.Folds.{sum, first};
 ghost use Rattle.admission.specs.Admission.{ticks_in_round, independent_sum, overloaded, B};
-ghost use Rattle.verdict.specs.declared.Verdict.TheVariants.{Passed, Synchronization};
+ghost use Rattle.verdict.specs.declared.Fault.TheVariants.{Synchronization};
+ghost use Rattle.verdict.specs.Verdict.{passing};
 
 use table::Table;
 use units::{Steps, Ticks};
-use verdict::Verdict;
+use verdict::{Fault, Verdict};
 
 // The ticks that some work takes at a speed in a round, once in each D.
 fn ticks_in_round(work: Steps, speed: u8, round: u32, deadline: Ticks) -> u64
@@ -36,7 +37,7 @@ pub(crate) fn independent_sum(t: Table) -> u64
 // The smallest position whose synchronization sum is above the round; `blocks` has B of each.
 pub(crate) fn first_overload(t: Table, blocks: [Steps; 16]) -> Verdict
     requires { (t.count ≤ 16) × ((i : ℕ) → i < t.count → (get_or blocks i (steps 0)).0 ≡ B t i) }
-    ensures { result ≡ first (overloaded t) Synchronization Passed t.count }
+    ensures { result ≡ first (overloaded t) (λ i. Err (Synchronization i)) passing t.count }
 {
     let n = t.count;
     let mut sum: u64 = 0;
@@ -46,9 +47,9 @@ pub(crate) fn first_overload(t: Table, blocks: [Steps; 16]) -> Verdict
         let next = sum + ticks_in_round(task.budget, task.synchronization, t.round, task.deadline);
         let block = ticks_in_round(longest, task.synchronization, t.round, task.deadline);
         if (t.round as u64) < block + next {
-            return Verdict::Synchronization(i);
+            return Err(Fault::Synchronization(i));
         }
         sum = next;
     }
-    Verdict::Passed
+    Ok(())
 }

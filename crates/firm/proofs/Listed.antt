@@ -11,7 +11,7 @@ use lib.Dec.{eqb, leb}
 use borrow.Author.Tests.{eq-eqb}
 use Rattle.units.specs.Folds.{over}
 use Rattle.table.specs.{declared.Task.Task, declared.Table.Table, Table.task_at, Table.limit}
-use Rattle.state.specs.{declared.State.State, declared.Answer.Answer, declared.Section.Section, State.Runner, declared.Report.Report, declared.Report.TheVariants.CarryOn, declared.Report.TheVariants.Done, declared.Report.TheVariants.Take, declared.Report.TheVariants.Give}
+use Rattle.state.specs.{declared.State.State, Answers.Answer, declared.Section.Section, State.Runner, declared.Report.Report, declared.Report.TheVariants.CarryOn, declared.Report.TheVariants.Done, declared.Report.TheVariants.Take, declared.Report.TheVariants.Give}
 use Rattle.records.specs.declared.Event.{Event}
 use Rattle.records.specs.{Records.first_event, Contents.event}
 use Rattle.lines.specs.declared.Line.TheVariants as Line

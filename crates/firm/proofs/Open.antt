@@ -11,9 +11,8 @@ use native.Mathlib.Decide.{ℕ_discrete}
 use Rattle.units.specs.Clock.{tick, after}
 use Rattle.table.specs.declared.Table.{Table}
 use Rattle.state.specs.declared.State.{State}
-use Rattle.state.specs.declared.Answer.{Answer}
 use Rattle.state.specs.State.{empty, job_at, Runner}
-use Rattle.state.specs.Answers.{bare}
+use Rattle.state.specs.Answers.{Answer, bare}
 use Rattle.promise.specs.History.{Machine, Line, line_of, lines, state_after, Call, release, choose, report, answered, start, ticks_closed, standing, number_by, ending_by, job_by, half_by, runner_by}
 use Rattle.promise.specs.Promise.{Passed, Kept, Promise}
 use Rattle.firm.specs.Open.{SameSpeed, Told, Same, Determined}

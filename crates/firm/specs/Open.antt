@@ -2,7 +2,7 @@
 use Rattle.std.specs.Prelude.{ℕ, ◌^◌, ◌<◌}
 use mathlib.Core.{Path.◌≡◌, List.List}
 use Rattle.table.specs.declared.Table.{Table}
-use Rattle.state.specs.{declared.State.State, declared.Answer.Answer, State.job_at}
+use Rattle.state.specs.{declared.State.State, Answers.Answer, State.job_at}
 use Rattle.promise.specs.History.{Machine, Call, choose, answered, state_after, start}
 use Rattle.promise.specs.Promise.{Passed, Promise}
 

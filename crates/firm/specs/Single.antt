@@ -42,8 +42,8 @@ pub record Singleness : Type 0 where
   pub limit : Single Table.specs.contracts.Task.limit.ended Table.proofs.Task.limit.Reads.Learnt
   pub ceilings : Single Table.specs.contracts.Table.ceilings.ended Table.proofs.Table.ceilings.Reads.Learnt
   pub verdict_of : Single Admission.specs.contracts.verdict_of.ended Admission.proofs.verdict_of.Reads.Learnt
-  pub number : Single Verdict.specs.contracts.Verdict.number.ended Verdict.proofs.Verdict.number.Reads.Learnt
-  pub position : Single Verdict.specs.contracts.Verdict.position.ended Verdict.proofs.Verdict.position.Reads.Learnt
+  pub number : Single Verdict.specs.contracts.number.ended Verdict.proofs.number.Reads.Learnt
+  pub position : Single Verdict.specs.contracts.position.ended Verdict.proofs.position.Reads.Learnt
   pub fresh : Single State.specs.contracts.State.fresh.ended State.proofs.State.fresh.Reads.Learnt
   pub bare : Single State.specs.contracts.Answer.bare.ended State.proofs.Answer.bare.Reads.Learnt
   pub any : Single State.specs.contracts.Stack.any.ended State.proofs.Stack.any.Reads.Learnt

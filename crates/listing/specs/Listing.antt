@@ -4,7 +4,7 @@ use Rattle.units.specs.Folds.{over}
 use Rattle.verdict.specs.Verdict.{answer}
 use Rattle.table.specs.declared.Table.{Table}
 use Rattle.admission.specs.Admission.{verdict}
-use Rattle.state.specs.{declared.State.State, declared.Answer.Answer, State.fresh}
+use Rattle.state.specs.{declared.State.State, Answers.Answer, State.fresh}
 use Rattle.machine.specs.Machine as Machine
 use Rattle.records.specs.{declared.Event.Event, Records.first_event, Records.event_count, Records.well_formed, Contents.table, Contents.start, Contents.event}
 use Rattle.lines.specs.declared.Line.TheVariants as Line

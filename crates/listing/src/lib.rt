@@ -50,7 +50,7 @@ fn write_listed(file: &[u8], out: &mut [u8]) -> usize
     let table = records::table(file);
     let start = State::fresh(table, records::start(file));
     let verdict = start.verdict;
-    let number = verdict.number();
+    let number = verdict::number(verdict);
     let at = Line::Table(number).write(out);
     if number != 0 {
         return at;

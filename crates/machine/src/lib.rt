@@ -2,108 +2,86 @@
 #![tactic(auto)]
 
 ghost use Rattle.std.specs.Prelude.{◌≡◌};
+ghost use Rattle.state.specs.Answers.{told};
 ghost use Rattle.machine.specs.Machine.{release, choose, report};
 
 use checker::examine;
-use state::{Answer, Report, State};
+use state::{Ending, Refusal, Report, State, Success};
 use table::Table;
 
 mod parts;
 
 // A job of the task at a position is taken on, or refused.
 #[tactic(auto, using(crate::proofs::Laws::Found::found_waiting))]
-pub fn release(table: Table, state: State, position: usize) -> Answer
-    ensures { result ≡ release table state position }
+pub fn release(table: Table, state: State, position: usize) -> Result<Success, Refusal>
+    ensures { told state result ≡ release table state position }
 {
-    let verdict = admission::verdict_of(table);
-    if verdict.number() != 0 {
-        return Answer::bare(9, state);
-    }
+    admission::verdict_of(table).map_err(|_| Refusal::Inconsistent)?;
     let found = examine(table, state);
     if !found.fits {
-        return Answer::bare(9, state);
+        return Err(Refusal::Inconsistent);
     }
-    let half = state.half;
-    if parts::mid_tick(half) {
-        return Answer::bare(11, state);
+    if parts::mid_tick(state.half) {
+        return Err(Refusal::WrongHalf);
     }
     if table.count <= position {
-        return Answer::bare(10, state);
+        return Err(Refusal::NotInTable);
     }
     let job = parts::job_at(state, position);
     if 0 < job.wait.0 {
-        return Answer::bare(12, state);
+        return Err(Refusal::TooEarly);
     }
     let task = parts::task_at(table, position);
     let next = parts::released(task, state.tick);
-    Answer::bare(0, parts::with_job(state, position, next))
+    Ok(Success::bare(parts::with_job(state, position, next)))
 }
 
 // The first half of a tick: who runs, in which mode, at which speed; or refused: 9, 11.
-pub fn choose(table: Table, state: State) -> Answer
-    ensures { result ≡ choose table state }
+pub fn choose(table: Table, state: State) -> Result<Success, Refusal>
+    ensures { told state result ≡ choose table state }
 {
-    let verdict = admission::verdict_of(table);
-    if verdict.number() != 0 {
-        return Answer::bare(9, state);
-    }
+    admission::verdict_of(table).map_err(|_| Refusal::Inconsistent)?;
     let found = examine(table, state);
     if !found.fits {
-        return Answer::bare(9, state);
+        return Err(Refusal::Inconsistent);
     }
-    let half = state.half;
-    if parts::mid_tick(half) {
-        return Answer::bare(11, state);
+    if parts::mid_tick(state.half) {
+        return Err(Refusal::WrongHalf);
     }
     let turn = found.turn;
-    let next = halves::in_mid_tick(state, turn);
-    let runner = turn.runner;
-    let mode = turn.mode;
-    Answer {
-        number: 0,
-        state: next,
-        runner,
-        mode,
+    Ok(Success {
+        state: halves::in_mid_tick(state, turn),
+        runner: turn.runner,
+        mode: turn.mode,
         speed: turn.speed,
-        ending: 0,
-    }
+        ending: Ending::GoesOn,
+    })
 }
 
 // The second half of a tick: what the runner's job says; or refused: 9, 11, 14, 13, 15, 16.
 #[tactic(auto, using(crate::proofs::Laws::Found::found_between))]
-pub fn report(table: Table, state: State, said: Report) -> Answer
-    ensures { result ≡ report table state said }
+pub fn report(table: Table, state: State, said: Report) -> Result<Success, Refusal>
+    ensures { told state result ≡ report table state said }
 {
-    let verdict = admission::verdict_of(table);
-    if verdict.number() != 0 {
-        return Answer::bare(9, state);
-    }
+    admission::verdict_of(table).map_err(|_| Refusal::Inconsistent)?;
     let found = examine(table, state);
     if !found.fits {
-        return Answer::bare(9, state);
+        return Err(Refusal::Inconsistent);
     }
-    let half = state.half;
-    if !parts::mid_tick(half) {
-        return Answer::bare(11, state);
+    if !parts::mid_tick(state.half) {
+        return Err(Refusal::WrongHalf);
     }
     let turn = found.turn;
-    let runner = turn.runner;
-    let p = halves::runner_position(runner);
-    let after = parts::reported(table, state, turn, found.held, said);
-    if after.number != 0 {
-        return Answer::bare(after.number, state);
+    let p = halves::runner_position(turn.runner);
+    let after = parts::reported(table, state, turn, found.held, said)?;
+    if halves::late(found.due, p, !after.job.pending) {
+        return Err(Refusal::Late);
     }
-    let job = after.job;
-    if halves::late(found.due, p, !job.pending) {
-        return Answer::bare(16, state);
-    }
-    let mode = turn.mode;
-    Answer {
-        number: 0,
-        state: halves::closed(state, p, job),
-        runner,
-        mode,
+    Ok(Success {
+        state: halves::closed(state, p, after.job),
+        runner: turn.runner,
+        mode: turn.mode,
         speed: turn.speed,
         ending: after.ending,
-    }
+    })
 }

@@ -2,12 +2,12 @@
 ghost use Rattle.std.specs.Prelude.{◌≡◌, ℕ, ◌<◌, set, Some};
 ghost use Rattle.table.specs.Table.{task_at};
 ghost use Rattle.state.specs.State.{job_at};
-ghost use Rattle.seen.specs.Seen.{reported_by};
+ghost use Rattle.seen.specs.Seen.{told, job_of, reported_by};
 ghost use Rattle.machine.specs.Machine.{mid_tick, released};
 
 use choice::Turn;
-use seen::Reported;
-use state::{Half, Job, Report, Stack, State};
+use report::Outcome;
+use state::{Half, Job, Refusal, Report, Stack, State};
 use table::{Table, Task};
 use units::{Steps, Tick};
 
@@ -57,13 +57,18 @@ pub(crate) fn with_job(state: State, position: usize, job: Job) -> State
     next
 }
 
-// What the report of a turn makes of the runner's job.
-pub(crate) fn reported(table: Table, state: State, turn: Turn, held: u16, said: Report) -> Reported
+// What the report of a turn makes of the runner's job, or why it is refused.
+pub(crate) fn reported(
+    table: Table,
+    state: State,
+    turn: Turn,
+    held: u16,
+    said: Report,
+) -> Result<Outcome, Refusal>
     requires { (p : ℕ) → turn.runner ≡ Some p → p < 16 }
-    ensures { result ≡ reported_by table state turn.runner held turn.speed said }
+    ensures { told (job_of state turn.runner) result ≡ reported_by table state turn.runner held turn.speed said }
 {
-    let runner = turn.runner;
-    let p = halves::runner_position(runner);
+    let p = halves::runner_position(turn.runner);
     if p < State::TASKS {
         let task = task_at(table, p);
         let job = job_at(state, p);

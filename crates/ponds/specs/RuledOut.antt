@@ -6,7 +6,7 @@ use Rattle.units.specs.{Clock.tick, Clock.after}
 use Rattle.verdict.specs.Verdict.{answer}
 use Rattle.admission.specs.Admission.{verdict}
 use Rattle.table.specs.{declared.Task.Task, declared.Table.Table, Table.task_at, Table.limit}
-use Rattle.state.specs.{declared.Job.Job, declared.State.State, declared.Answer.Answer, declared.Mode.Mode, declared.Mode.TheVariants.Independent, declared.Mode.TheVariants.Synchronization, declared.Report.Report, declared.Report.TheVariants.CarryOn, declared.Report.TheVariants.Done, declared.Report.TheVariants.Take, declared.Report.TheVariants.Give, State.Runner, Stack.section_at, Stack.stacked, State.job_at, Order.no_place, Order.holds, Order.held_resources, Answers.bare}
+use Rattle.state.specs.{declared.Job.Job, declared.State.State, Answers.Answer, declared.Mode.Mode, declared.Mode.TheVariants.Independent, declared.Mode.TheVariants.Synchronization, declared.Report.Report, declared.Report.TheVariants.CarryOn, declared.Report.TheVariants.Done, declared.Report.TheVariants.Take, declared.Report.TheVariants.Give, State.Runner, Stack.section_at, Stack.stacked, State.job_at, Order.no_place, Order.holds, Order.held_resources, Answers.bare}
 use Rattle.choice.specs.{declared.Turn.Turn, Choice.top, Choice.turn}
 use Rattle.report.specs.{declared.Outcome.Outcome, Report.worked, Report.holding, Report.onward, Report.settled, Report.at_limit, Report.objection, Report.finished, Report.report_idle, Report.report_as}
 use Rattle.machine.specs.Machine.{released_at}

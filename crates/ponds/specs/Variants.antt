@@ -1,10 +1,10 @@
 -- Machines by other rules. Of the test of consistency only that the table passes is asked, since the rest makes 01's choice again.
 use Rattle.std.specs.Prelude.{ℕ, not, cond, eqb, ltb, leb}
 use Rattle.units.specs.Clock.{tick}
-use Rattle.verdict.specs.{declared.Verdict.Verdict, Verdict.answer}
+use Rattle.verdict.specs.Verdict.{Verdict, answer}
 use Rattle.table.specs.{declared.Table.Table}
 use Rattle.admission.specs.Admission.{verdict}
-use Rattle.state.specs.{declared.State.State, declared.Answer.Answer, declared.Report.Report, State.job_at, State.empty, Order.no_place, Answers.bare}
+use Rattle.state.specs.{declared.State.State, Answers.Answer, declared.Report.Report, State.job_at, State.empty, Order.no_place, Answers.bare}
 use Rattle.choice.specs.{declared.Turn.Turn, Choice.top, Choice.idle, Choice.in_mid_tick, Choice.turn}
 use Rattle.report.specs.Report.{report_as}
 use Rattle.machine.specs.Machine.{mid_tick, released_at, chosen}

@@ -8,7 +8,7 @@ use mathlib.Core.Logic.{◌⊎◌, inl, inr}
 use mathlib.Core.Option.{some}
 use Rattle.table.specs.declared.Table.{Table}
 use Rattle.table.specs.Table.{D, ceiling}
-use Rattle.state.specs.{declared.State.State, declared.Answer.Answer, declared.Mode.TheVariants.Independent, declared.Mode.TheVariants.Synchronization, declared.Report.TheVariants.CarryOn, Answers.bare}
+use Rattle.state.specs.{declared.State.State, Answers.Answer, declared.Mode.TheVariants.Independent, declared.Mode.TheVariants.Synchronization, declared.Report.TheVariants.CarryOn, Answers.bare}
 use Rattle.promise.specs.History.{Machine, Call, release, choose, report, answered, Line, is_own, sections, IsOpen, has_started, latest, is_there, Ahead, standing, ending_by}
 use Rattle.promise.specs.Promise.{Below, FirstBlocked, Kept}
 use Rattle.promise.proofs.History.Tells.{line}

@@ -4,9 +4,10 @@ use mathlib.Core.{Bool.Bool, Bool.false, Bool.◌&&◌, Bool.◌||◌, Bool.cond
 use lib.{ListN.set, Dec.ltb, Dec.leb, Dec.eqb}
 use Rattle.units.specs.{Amounts.ticks, Amounts.steps, Amounts.given, Clock.tick, Clock.after, Clock.distance, Folds.some, Sets.has}
 use Rattle.table.specs.{declared.Task.Task, declared.Table.Table, Table.task_at, Table.limit}
-use Rattle.state.specs.{declared.Job.Job, declared.State.State, declared.Answer.Answer, declared.Section.Section, declared.Stack.Stack, declared.Half.TheVariants.First, State.Runner, declared.Report.Report, declared.Report.TheVariants.CarryOn, declared.Report.TheVariants.Done, declared.Report.TheVariants.Take, declared.Report.TheVariants.Give, Stack.section_at, Stack.stacked, Stack.nothing, Stack.any_on, State.job_at, Order.holds_any, Order.holds, Order.held_resources, Answers.bare}
+use Rattle.state.specs.{declared.Job.Job, declared.State.State, declared.Ending.Ending, declared.Section.Section, declared.Stack.Stack, declared.Half.TheVariants.First, State.Runner, declared.Report.Report, declared.Report.TheVariants.CarryOn, declared.Report.TheVariants.Done, declared.Report.TheVariants.Take, declared.Report.TheVariants.Give, Stack.section_at, Stack.stacked, Stack.nothing, Stack.any_on, State.job_at, Order.holds_any, Order.holds, Order.held_resources, Answers.Answer, Answers.ending_number, Answers.bare}
 use Rattle.choice.specs.{declared.Turn.Turn, Choice.turn}
 use Rattle.report.specs.{declared.Outcome.Outcome}
+use Rattle.state.specs.declared.Ending.TheVariants as Ends
 
 -- "its section steps rise by the speed, up to the limit"
 abbrev pub risen : Task → ℕ → Section → Section
@@ -44,12 +45,12 @@ at_limit task h = any_on (λ x. eqb x.steps.0 (limit task x.resource)) h
 -- "else steps used = C ends it as cut; else take or give is done; else a holder at its limit is ended as cut", and one that is so "after a take or a give" too
 abbrev pub onward : Task → Job → Stack → Outcome
 onward task j h =
-    cond (eqb j.used.0 task.budget.0) (record { job = ended j; ending = 2 })
-    (cond (at_limit task h) (record { job = ended j; ending = 2 }) (record { job = holding h j; ending = 0 }))
+    cond (eqb j.used.0 task.budget.0) (record { job = ended j; ending = Ends.Cut })
+    (cond (at_limit task h) (record { job = ended j; ending = Ends.Cut }) (record { job = holding h j; ending = Ends.GoesOn }))
 
--- "Then: done ends the job"; else that. The ending: "0 goes on or idle, 1 done, 2 cut"
+-- "Then: done ends the job"; else that
 abbrev pub settled : Task → Report → Job → Outcome
-settled task Done j = record { job = ended j; ending = 1 }
+settled task Done j = record { job = ended j; ending = Ends.Done }
 settled task CarryOn j = onward task j j.held
 settled task (Take r) j = onward task j (taken r j.held)
 settled task Give j = onward task j (given_back j.held)
@@ -76,10 +77,10 @@ unfoldable pub late : State → Bool
 late s = some (λ k. (job_at s k).pending && eqb (distance s.tick.0 (job_at s k).deadline.0) 0) 16
 
 -- the answer, with the tick closed
-unfoldable pub finished : State → List Job → Turn → ℕ → Answer
+unfoldable pub finished : State → List Job → Turn → Ending → Answer
 finished s jobs u ending =
     cond (late (closed s jobs)) (bare 16 s)
-    (record { number = 0; state = closed s jobs; runner = u.runner; mode = u.mode; speed = u.speed; ending = ending })
+    (record { number = 0; state = closed s jobs; runner = u.runner; mode = u.mode; speed = u.speed; ending = ending_number ending })
 
 -- the report of the job at p
 unfoldable pub report_run : Table → State → Turn → ℕ → Report → Answer
@@ -91,7 +92,7 @@ report_run t s u p said =
 
 -- 14: "at an idle tick, anything but carry on"
 abbrev pub report_idle : State → Turn → Report → Answer
-report_idle s u CarryOn = finished s s.jobs u 0
+report_idle s u CarryOn = finished s s.jobs u Ends.GoesOn
 report_idle s u Done = bare 14 s
 report_idle s u (Take r) = bare 14 s
 report_idle s u Give = bare 14 s

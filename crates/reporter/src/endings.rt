@@ -1,11 +1,12 @@
 // What a tick and its report do to the runner's job.
 ghost use Rattle.std.specs.Prelude.{◌≡◌, ℕ, ◌<◌};
 ghost use Rattle.state.specs.declared.Report.TheVariants.{Take};
+ghost use Rattle.state.specs.declared.Ending.TheVariants.{Cut};
 ghost use Rattle.report.specs.Report.{worked, ended, holding, onward, settled};
 
 use crate::sections;
 use report::Outcome;
-use state::{Answer, Job, Report, Stack};
+use state::{Ending, Job, Report, Stack};
 use table::Task;
 use units::{Steps, Tick};
 
@@ -52,11 +53,11 @@ fn holding(held: Stack, job: Job) -> Job
 }
 
 fn cut(job: Job) -> Outcome
-    ensures { result ≡ record { job = ended job; ending = 2 } }
+    ensures { result ≡ record { job = ended job; ending = Cut } }
 {
     Outcome {
         job: ended(job),
-        ending: Answer::CUT,
+        ending: Ending::Cut,
     }
 }
 
@@ -72,7 +73,7 @@ fn onward(task: Task, job: Job, held: Stack) -> Outcome
     }
     Outcome {
         job: holding(held, job),
-        ending: 0,
+        ending: Ending::GoesOn,
     }
 }
 
@@ -85,7 +86,7 @@ pub(crate) fn settled(task: Task, said: Report, job: Job) -> Outcome
     match said {
         Report::Done => Outcome {
             job: ended(job),
-            ending: Answer::DONE,
+            ending: Ending::Done,
         },
         Report::CarryOn => onward(task, job, held),
         Report::Take(resource) => onward(task, job, sections::taken(resource, held)),

@@ -2,53 +2,42 @@
 #![tactic(auto)]
 
 ghost use Rattle.std.specs.Prelude.{◌≡◌};
-ghost use Rattle.seen.specs.Seen.{reported, reported_idle};
+ghost use Rattle.state.specs.State.{no_job};
+ghost use Rattle.seen.specs.Seen.{told, reported, reported_idle};
 
-use seen::Reported;
-use state::{Job, Report};
+use report::Outcome;
+use state::{Ending, Job, Refusal, Report};
 use table::Task;
 
 mod endings;
 mod objection;
 mod sections;
 
-// What a report makes of the job that ran, or the number of its refusal; `held` are the resources that jobs hold.
-pub fn reported(task: Task, job: Job, held: u16, speed: u8, said: Report) -> Reported
-    ensures { result ≡ reported task job held speed said }
+// What a report makes of the job that ran, or why it is refused; `held` are the resources that jobs hold.
+pub fn reported(
+    task: Task,
+    job: Job,
+    held: u16,
+    speed: u8,
+    said: Report,
+) -> Result<Outcome, Refusal>
+    ensures { told job result ≡ reported task job held speed said }
 {
-    let number = objection::objection(task, job, held, said);
-    if number != 0 {
-        return Reported {
-            number,
-            job,
-            ending: 0,
-        };
-    }
-    let outcome = endings::settled(task, said, endings::worked(task, speed, job));
-    let after = outcome.job;
-    Reported {
-        number: 0,
-        job: after,
-        ending: outcome.ending,
-    }
+    objection::objection(task, job, held, said)?;
+    Ok(endings::settled(task, said, endings::worked(task, speed, job)))
 }
 
 // The report of an idle tick.
-pub fn reported_idle(said: Report) -> Reported
-    ensures { result ≡ reported_idle said }
+#[tactic(auto, unfolding(units::specs::Folds::listed, units::specs::Folds::over))]
+pub fn reported_idle(said: Report) -> Result<Outcome, Refusal>
+    ensures { told no_job result ≡ reported_idle said }
 {
-    let mut number = 14u8;
-    match said {
-        Report::CarryOn => {
-            number = 0;
-        }
-        Report::Done => {}
-        Report::Take(_) => {}
-        Report::Give => {}
-    }
-    Reported {
-        number,
+    let idle = Outcome {
         job: Job::NONE,
-        ending: 0,
+        ending: Ending::GoesOn,
+    };
+    match said {
+        Report::CarryOn => Ok(idle),
+        _ => Err(Refusal::NotNow),
     }
 }

@@ -1,14 +1,15 @@
 -- Ask 2: "The choice walks the tasks once for top and again for the first started job. [..] Do both in one pass, with fewer locals. No answer changes." What that pass gathers and the calls are handed of it: each number is one of document 01's, and proofs/Laws shows that the rules follow from the numbers.
-use Rattle.std.specs.Prelude.{ℕ, min, max, Option, Some, None}
+use Rattle.std.specs.Prelude.{ℕ, min, max, Option, Some, None, Ok, Err, Result}
 use mathlib.Core.{Bool.Bool, Bool.not, Bool.◌&&◌, Bool.◌||◌, Bool.cond, List.List}
 use lib.{ListN.get_or, Dec.ltb, Dec.leb, Dec.eqb}
 use Rattle.units.specs.{declared.Ticks.Ticks, Amounts.ticks, Clock.distance, Folds.smallest, Folds.some, Sets.set, Sets.has, Sets.with}
 use Rattle.table.specs.{declared.Task.Task, declared.Table.Table, Table.task_at, Table.D}
-use Rattle.state.specs.{declared.Job.Job, declared.State.State, State.Mark, declared.Half.Half, declared.Half.TheVariants.First, declared.Half.TheVariants.Second, State.Runner, declared.Report.Report, declared.Report.TheVariants.CarryOn, declared.Report.TheVariants.Done, declared.Report.TheVariants.Take, declared.Report.TheVariants.Give, State.no_job, State.job_at, Order.place, Order.place_at, Order.no_place, Order.is_started, Order.holds_any, Order.first_in_order, Order.last_holder, Order.held_resources, Order.with_held}
+use Rattle.state.specs.{declared.Job.Job, declared.State.State, State.Mark, declared.Half.Half, declared.Half.TheVariants.First, declared.Half.TheVariants.Second, State.Runner, declared.Refusal.Refusal, declared.Ending.Ending, declared.Report.Report, declared.Report.TheVariants.CarryOn, declared.Report.TheVariants.Done, declared.Report.TheVariants.Take, declared.Report.TheVariants.Give, State.no_job, State.job_at, Order.place, Order.place_at, Order.no_place, Order.is_started, Order.holds_any, Order.first_in_order, Order.last_holder, Order.held_resources, Order.with_held, Answers.refusal_number}
 use Rattle.choice.specs.{declared.Turn.Turn, Choice.top, Choice.fastest, Choice.mark_place, Choice.mark_at, Choice.synchronized, Choice.no_holder_behind, Choice.turn}
-use Rattle.report.specs.{Report.worked, Report.settled, Report.objection}
+use Rattle.report.specs.{declared.Outcome.Outcome, Report.worked, Report.settled, Report.objection}
 use Rattle.consistency.specs.Consistency.{positions_fit, mark_fits, half_fits, same_runner, same_mark}
-use Rattle.seen.specs.{declared.Seen.Seen, declared.Examined.Examined, declared.Reported.Reported}
+use Rattle.seen.specs.{declared.Seen.Seen, declared.Examined.Examined}
+use Rattle.state.specs.declared.Ending.TheVariants as Ends
 
 -- a pending job that stands a tick before its deadline, and the positions of all such
 abbrev pub is_due : ℕ → Job → Bool
@@ -81,12 +82,23 @@ abbrev pub runner_position : Runner → ℕ
 runner_position None = 16
 runner_position (Some p) = p
 
+-- the number of a report, 0 where it is taken; then the job after its tick, and how it ended
+pub record Reported : Type 0 where
+  pub number : ℕ
+  pub job : Job
+  pub ending : Ending
+
+-- what the code answers of the job j: where it refuses, j is as it was
+abbrev pub told : Job → Result Outcome Refusal → Reported
+told j (Ok o) = record { number = 0; job = o.job; ending = o.ending }
+told j (Err r) = record { number = refusal_number r; job = j; ending = Ends.GoesOn }
+
 -- what a report makes of the job that ran, at a speed, or its number
 unfoldable pub reported : Task → Job → ℕ → ℕ → Report → Reported
 reported task j held v said =
     let number = objection task j held said in
     let o = settled task said (worked task v j) in
-    cond (eqb number 0) (record { number = 0; job = o.job; ending = o.ending }) (record { number = number; job = j; ending = 0 })
+    cond (eqb number 0) (record { number = 0; job = o.job; ending = o.ending }) (record { number = number; job = j; ending = Ends.GoesOn })
 
 -- and of an idle tick
 abbrev pub idle_number : Report → ℕ
@@ -96,7 +108,12 @@ idle_number (Take r) = 14
 idle_number Give = 14
 
 abbrev pub reported_idle : Report → Reported
-reported_idle said = record { number = idle_number said; job = no_job; ending = 0 }
+reported_idle said = record { number = idle_number said; job = no_job; ending = Ends.GoesOn }
+
+-- the job that ran, if one did
+abbrev pub job_of : State → Runner → Job
+job_of s None = no_job
+job_of s (Some p) = job_at s p
 
 abbrev pub reported_by : Table → State → Runner → ℕ → ℕ → Report → Reported
 reported_by t s None held v said = reported_idle said

@@ -2,7 +2,7 @@
 #![tactic(auto)]
 
 use choice::Turn;
-use state::{Job, State};
+use state::State;
 
 // The resources that are held and the positions that are due, one bit each; the places of top, of the first started job and of the last holder.
 #[derive(Clone, Copy)]
@@ -20,14 +20,6 @@ pub struct Examined {
     pub turn: Turn,
     pub held: u16,
     pub due: u16,
-}
-
-// The number of a report, 0 where it is taken; then the job after its tick, and how it ended.
-#[derive(Clone, Copy)]
-pub struct Reported {
-    pub number: u8,
-    pub job: Job,
-    pub ending: u8,
 }
 
 impl Seen {

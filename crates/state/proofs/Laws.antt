@@ -1,3 +1,4 @@
+pub mod Answers
 pub mod Fresh
 pub mod Stacks
 pub mod Past

@@ -1,10 +1,10 @@
 // What the machine keeps from call to call, and what its calls are told and answer.
 #![tactic(auto)]
 
-ghost use Rattle.std.specs.Prelude.{◌≡◌};
+ghost use Rattle.std.specs.Prelude.{◌≡◌, Ok};
 ghost use Rattle.units.specs.Folds.{listed};
 ghost use Rattle.state.specs.State.{no_job, fresh};
-ghost use Rattle.state.specs.Answers.{bare};
+ghost use Rattle.state.specs.Answers.{refusal_number, ending_number, bare, told};
 
 use table::Table;
 use units::{Steps, Tick, Ticks};
@@ -80,15 +80,35 @@ pub enum Report {
     Give,
 }
 
-// What a release, a choice or a report answers.
+// Why a release, a choice or a report is refused; a table's own faults are `verdict`'s.
+#[derive(Clone, Copy, Debug, PartialEq, Eq)]
+pub enum Refusal {
+    Inconsistent = 9,
+    NotInTable = 10,
+    WrongHalf = 11,
+    TooEarly = 12,
+    MayNotTake = 13,
+    NotNow = 14,
+    HeldByAnother = 15,
+    Late = 16,
+}
+
+// What becomes of the runner's job at the end of its tick.
+#[derive(Clone, Copy, Debug, PartialEq, Eq)]
+pub enum Ending {
+    GoesOn = 0,
+    Done = 1,
+    Cut = 2,
+}
+
+// What a release, a choice or a report answers that is not refused. A refused one leaves the state as it was.
 #[derive(Clone, Copy)]
-pub struct Answer {
-    pub number: u8,
+pub struct Success {
     pub state: State,
     pub runner: Runner,
     pub mode: Mode,
     pub speed: u8,
-    pub ending: u8,
+    pub ending: Ending,
 }
 
 #[derive(Clone, Copy)]
@@ -124,17 +144,13 @@ impl Job {
     };
 }
 
-// Sixteen places without a job. The loop changes nothing, but its bound is not known beforehand: so the compiler keeps a state in one
+// Sixteen places without a job. The fill changes nothing, but its bound is not known beforehand: so the compiler keeps a state in one
 // piece, and does not carry its two hundred numbers one by one through every call.
 fn no_jobs(count: usize) -> [Job; 16]
     ensures { result ≡ listed (λ k. no_job) 16 }
 {
     let mut jobs = [Job::NONE; 16];
-    if count <= State::TASKS {
-        for k in 0..count {
-            jobs[k] = Job::NONE;
-        }
-    }
+    jobs[..count.min(State::TASKS)].fill(Job::NONE);
     jobs
 }
 
@@ -155,7 +171,7 @@ impl State {
     {
         let verdict = admission::verdict_of(table);
         let mut now = Tick(0);
-        if verdict.number() == 0 {
+        if verdict::number(verdict) == 0 {
             now = tick;
         }
         let jobs = no_jobs(table.count);
@@ -170,23 +186,35 @@ impl State {
     }
 }
 
-impl Answer {
-    // Endings; 0 goes on.
-    pub const DONE: u8 = 1;
-
-    pub const CUT: u8 = 2;
-
-    // An answer that names no job, as every refusal is: independent, speed 0, ending 0.
-    pub fn bare(number: u8, state: State) -> Answer
-        ensures { result ≡ bare number state }
+impl Refusal {
+    // The number that document 01 gives it.
+    pub fn number(self) -> u8
+        ensures { result ≡ refusal_number self }
     {
-        Answer {
-            number,
+        self as u8
+    }
+}
+
+impl Ending {
+    // The number that document 01 gives it.
+    pub fn number(self) -> u8
+        ensures { result ≡ ending_number self }
+    {
+        self as u8
+    }
+}
+
+impl Success {
+    // An answer that names no job: independent, speed 0, and nothing ends.
+    pub fn bare(state: State) -> Success
+        ensures { told state (Ok result) ≡ bare 0 state }
+    {
+        Success {
             state,
             runner: None,
             mode: Mode::Independent,
             speed: 0,
-            ending: 0,
+            ending: Ending::GoesOn,
         }
     }
 }

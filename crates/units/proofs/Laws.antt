@@ -1,6 +1,7 @@
 pub mod Amounts
 pub mod Clock
 pub mod Folds
+pub mod Elements
 pub mod Lists
 pub mod Loops
 pub mod Sets

@@ -8,34 +8,34 @@ mod clock;
 pub mod sets;
 
 // How many ticks. A tick count is never added to a step count.
-#[derive(Clone, Copy, Debug, PartialEq, Eq)]
+#[derive(Clone, Copy, Debug, PartialEq, Eq, PartialOrd, Ord)]
 pub struct Ticks(pub u16);
 
-// A value of the tick counter: now, or a deadline.
+// A value of the tick counter: now, or a deadline. It rolls over, so no value comes before another.
 #[derive(Clone, Copy, Debug, PartialEq, Eq)]
 pub struct Tick(pub u32);
 
 // How many steps of work.
-#[derive(Clone, Copy, Debug, PartialEq, Eq)]
+#[derive(Clone, Copy, Debug, PartialEq, Eq, PartialOrd, Ord)]
 pub struct Steps(pub u16);
 
 impl Steps {
     // What a tick at this speed gives.
+    #[tactic(auto, unfolding(crate::specs::Amounts::given))]
     pub fn given(speed: u8) -> Steps
         ensures { result ≡ steps (given speed) }
     {
-        Steps(speed as u16)
+        Steps(u16::from(speed))
     }
 
     // Up: the only way from steps to ticks. Ticks that give nothing count for nothing.
+    #[tactic(auto, using(crate::proofs::Laws::Amounts::up_none, crate::proofs::Laws::Amounts::ceil_up))]
     pub fn up(self, each: Steps) -> Ticks
         ensures { result ≡ ticks (up self.0 each.0) }
     {
-        let work = self.0 as u32;
-        let tick = each.0 as u32;
-        if tick == 0 {
+        if each.0 == 0 {
             return Ticks(0);
         }
-        Ticks(((work + (tick - 1)) / tick) as u16)
+        Ticks(self.0.div_ceil(each.0))
     }
 }

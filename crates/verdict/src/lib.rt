@@ -4,10 +4,9 @@
 ghost use Rattle.std.specs.Prelude.{◌≡◌};
 ghost use Rattle.verdict.specs.Verdict.{answer};
 
-// What the admission test finds, with the position where one is concerned.
-#[derive(Clone, Copy)]
-pub enum Verdict {
-    Passed,
+// Why a table does not pass, with the position where one is concerned.
+#[derive(Clone, Copy, Debug, PartialEq, Eq)]
+pub enum Fault {
     Count,
     Setting,
     Range(usize),
@@ -17,36 +16,37 @@ pub enum Verdict {
     Synchronization(usize),
 }
 
-impl Verdict {
-    // The number that document 01 gives it.
-    pub fn number(self) -> u8
-        ensures { result ≡ (answer self).0 }
-    {
-        match self {
-            Verdict::Passed => 0,
-            Verdict::Count => 2,
-            Verdict::Setting => 3,
-            Verdict::Range(_) => 4,
-            Verdict::Divisor(_) => 5,
-            Verdict::Order(_) => 6,
-            Verdict::Independent => 7,
-            Verdict::Synchronization(_) => 8,
-        }
-    }
+// What the admission test finds: that the table passes, or its fault.
+pub type Verdict = Result<(), Fault>;
 
-    // The position that it names; 0 where none is concerned.
-    pub fn position(self) -> usize
-        ensures { result ≡ (answer self).1 }
-    {
-        match self {
-            Verdict::Passed => 0,
-            Verdict::Count => 0,
-            Verdict::Setting => 0,
-            Verdict::Range(k) => k,
-            Verdict::Divisor(k) => k,
-            Verdict::Order(k) => k,
-            Verdict::Independent => 0,
-            Verdict::Synchronization(k) => k,
-        }
+// The number that document 01 gives it; 0 where the table passes.
+pub fn number(verdict: Verdict) -> u8
+    ensures { result ≡ (answer verdict).0 }
+{
+    match verdict {
+        Ok(()) => 0,
+        Err(Fault::Count) => 2,
+        Err(Fault::Setting) => 3,
+        Err(Fault::Range(_)) => 4,
+        Err(Fault::Divisor(_)) => 5,
+        Err(Fault::Order(_)) => 6,
+        Err(Fault::Independent) => 7,
+        Err(Fault::Synchronization(_)) => 8,
+    }
+}
+
+// The position that it names; 0 where none is concerned.
+pub fn position(verdict: Verdict) -> usize
+    ensures { result ≡ (answer verdict).1 }
+{
+    match verdict {
+        Ok(()) => 0,
+        Err(Fault::Count) => 0,
+        Err(Fault::Setting) => 0,
+        Err(Fault::Range(k)) => k,
+        Err(Fault::Divisor(k)) => k,
+        Err(Fault::Order(k)) => k,
+        Err(Fault::Independent) => 0,
+        Err(Fault::Synchronization(k)) => k,
     }
 }

@@ -9,9 +9,9 @@ use lib.Dec.{ltb, leb, eqb}
 use borrow.Author.Tests.{not-false, ltb-false, leb-true, le-leb, lt-ltb, le-ltb, eqb-true, eq-eqb}
 use Rattle.units.specs.Folds.{largest}
 use Rattle.units.proofs.Laws.Folds.{all_tells, all-holds, largest_bounds}
-use Rattle.verdict.specs.declared.Verdict.{Verdict}
-use Rattle.verdict.specs.declared.Verdict.TheVariants as Is
-use Rattle.verdict.specs.Verdict.{answer}
+use Rattle.std.specs.Prelude.{Err}
+use Rattle.verdict.specs.declared.Fault.TheVariants as Is
+use Rattle.verdict.specs.Verdict.{Verdict, passing, answer}
 use Rattle.table.specs.declared.Table.{Table}
 use Rattle.table.proofs.Laws.Ceilings.{ceiling_user}
 use Rattle.table.specs.Table.{task_at, D, C, limit, ceiling}
@@ -59,14 +59,14 @@ sound_tells : (t : Table) (k : ℕ) → faulty t k ≡ false → Sound t k
 unfolding faulty fault_at fault
 sound_tells t k h =
     let n = eqb-true _ _ (not-false _ h) in
-    let r = cond_tells (not (in_range t.full (task_at t k))) (Is.Range k) _ (λ e. omega arith) n in
-    let d = cond_tells (not (eqb (t.round % D t k) 0)) (Is.Divisor k) _ (λ e. omega arith) r.1 in
-    let o = cond_tells (ltb (D t k) (previous t k)) (Is.Order k) _ (λ e. omega arith) d.1 in
+    let r = cond_tells (not (in_range t.full (task_at t k))) (Err (Is.Range k)) _ (λ e. omega arith) n in
+    let d = cond_tells (not (eqb (t.round % D t k) 0)) (Err (Is.Divisor k)) _ (λ e. omega arith) r.1 in
+    let o = cond_tells (ltb (D t k) (previous t k)) (Err (Is.Order k)) _ (λ e. omega arith) d.1 in
     record { range = not-false _ r.0; divides = eqb-true _ _ (not-false _ d.0); order = ltb-false _ _ o.0 }
 
 sound_holds : (t : Table) (k : ℕ) → Sound t k → faulty t k ≡ false
 unfolding fault_at fault
-sound_holds t k h = no_fault t k {v = Is.Passed} (simp (h.range, eq-eqb _ _ h.divides, le-ltb _ _ h.order)) refl
+sound_holds t k h = no_fault t k {v = passing} (simp (h.range, eq-eqb _ _ h.divides, le-ltb _ _ h.order)) refl
 
 -- ---- both ways
 
@@ -78,11 +78,11 @@ steady t h j (suc k) l m =
 pub admitted : (t : Table) → (answer (verdict t)).0 ≡ 0 → Admitted t
 unfolding verdict sums overloaded
 admitted t h =
-    let c = cond_tells (not (count_in_range t)) Is.Count _ (λ e. omega arith) h in
-    let s = cond_tells (not (setting_in_range t)) Is.Setting _ (λ e. omega arith) c.1 in
+    let c = cond_tells (not (count_in_range t)) (Err Is.Count) _ (λ e. omega arith) h in
+    let s = cond_tells (not (setting_in_range t)) (Err Is.Setting) _ (λ e. omega arith) c.1 in
     let f = first_tells (faulty t) (fault_at t) _ t.count (λ k e z. sound t k z e) s.1 in
-    let i = cond_tells (ltb t.round (independent_sum t)) Is.Independent _ (λ e. omega arith) f.1 in
-    let o = first_tells (overloaded t) Is.Synchronization Is.Passed t.count (λ k e z. omega arith) i.1 in
+    let i = cond_tells (ltb t.round (independent_sum t)) (Err Is.Independent) _ (λ e. omega arith) f.1 in
+    let o = first_tells (overloaded t) (λ i. Err (Is.Synchronization i)) passing t.count (λ k e z. omega arith) i.1 in
     let good : (k : ℕ) → k < t.count → Sound t k = λ k l. sound_tells t k (f.0 k l) in
     let number = count_tells t (not-false _ c.0) in
     let rise = steady t (λ k l. (good k l).order) in record {
@@ -98,7 +98,7 @@ admitted t h =
       ceilings = λ k r l h. let w = ceiling_user t k r number.high l h in le_trans (le_of_eq w.2) (rise w.0 k w.1 l);
     }
 
-pub passes : (t : Table) → Admitted t → verdict t ≡ Is.Passed
+pub passes : (t : Table) → Admitted t → verdict t ≡ passing
 unfolding sums overloaded
 passes t a =
     says_rest t a.count a.setting

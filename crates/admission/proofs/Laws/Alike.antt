@@ -6,9 +6,9 @@ use native.Mathlib.Omega.{arith}
 use lib.Dec.{ltb, leb, eqb}
 use Rattle.units.specs.Folds.{sum, largest, first}
 use Rattle.units.proofs.Laws.Folds.{sum_same, largest-same, first-same}
-use Rattle.verdict.specs.declared.Verdict.{Verdict}
-use Rattle.verdict.specs.declared.Verdict.TheVariants as Is
-use Rattle.verdict.specs.Verdict.{answer}
+use Rattle.std.specs.Prelude.{Err}
+use Rattle.verdict.specs.declared.Fault.TheVariants as Is
+use Rattle.verdict.specs.Verdict.{Verdict, passing, answer}
 use Rattle.table.specs.declared.Task.{Task}
 use Rattle.table.specs.declared.Table.{Table}
 use Rattle.table.specs.Table.{task_at, D, C, S, limit}
@@ -57,8 +57,8 @@ module _ {t u : Table} (a : Alike t u) where
   sums_same : sums t ≡ sums u
   unfolding sums overloaded
   sums_same =
-      ap₂ (λ (b : Bool) (v : Verdict). cond b Is.Independent v) (ap₂ ltb a.round independent-same)
-      (first-same _ _ _ _ Is.Passed t.count (λ i l. ap₂ ltb a.round (synchronization-same i l)) (λ i l h. refl) ∙ ap (first _ _ _) a.count)
+      ap₂ (λ (b : Bool) (v : Verdict). cond b (Err Is.Independent) v) (ap₂ ltb a.round independent-same)
+      (first-same _ _ _ _ passing t.count (λ i l. ap₂ ltb a.round (synchronization-same i l)) (λ i l h. refl) ∙ ap (first _ _ _) a.count)
 
   faults-same : first (faulty t) (fault_at t) (sums t) t.count ≡ first (faulty u) (fault_at u) (sums u) u.count
   unfolding faulty
@@ -69,6 +69,6 @@ module _ {t u : Table} (a : Alike t u) where
   pub verdict-same : verdict t ≡ verdict u
   unfolding verdict count_in_range setting_in_range
   verdict-same =
-      ap₂ (λ (b : Bool) (v : Verdict). cond (not b) Is.Count v) (ap (λ (n : ℕ). leb 1 n && leb n 16) a.count)
-      (ap₂ (λ (b : Bool) (v : Verdict). cond (not b) Is.Setting v)
+      ap₂ (λ (b : Bool) (v : Verdict). cond (not b) (Err Is.Count) v) (ap (λ (n : ℕ). leb 1 n && leb n 16) a.count)
+      (ap₂ (λ (b : Bool) (v : Verdict). cond (not b) (Err Is.Setting) v)
       (ap₂ (λ (f g : ℕ). leb 1 f && leb f 64 && leb 1 g && leb g 1000000) a.full a.round) faults-same)

@@ -7,9 +7,10 @@ use borrow.Author.Tests.{eq-eqb, ne_eqb}
 use Rattle.units.specs.Folds.{all, first, lowest}
 use Rattle.units.proofs.Laws.Folds.{lowest-next, first_found}
 use Rattle.units.proofs.Laws.Tests.{passed, tests, parts}
-use Rattle.verdict.specs.declared.Verdict.{Verdict}
-use Rattle.verdict.specs.declared.Verdict.TheVariants.{Passed}
-use Rattle.verdict.specs.Verdict.{answer}
+use Rattle.std.specs.Prelude.{Ok, Err}
+use Rattle.verdict.specs.declared.Fault.{Fault}
+use Rattle.verdict.specs.Verdict.{Verdict, passing, answer}
+use Rattle.verdict.proofs.Laws.{fault_counts}
 use Rattle.table.specs.declared.Task.{Task}
 use Rattle.table.specs.declared.Table.{Table}
 use Rattle.table.specs.Table.{task_at, limit}
@@ -82,16 +83,16 @@ module _ (t : Table) (k : ℕ) {v : Verdict} (e : v ≡ fault_at t k) where
 pub sound : (t : Table) (k : ℕ) → (answer (fault_at t k)).0 ≡ 0 → faulty t k ≡ true → ⊥
 sound t k e h = false≢true (sym (no_fault t k refl e) ∙ h)
 
--- ---- the walk: v is what is found at k, and no position before it is at fault
+-- ---- the walk: what is found at k, where no position before it is at fault
 
-module _ (t : Table) (k : ℕ) {d : ℕ} {v : Verdict} (e : v ≡ fault t.full t.round d (task_at t k) k) (before : d ≡ previous t k) where
-  fault_here : v ≡ fault_at t k
+module _ (t : Table) (k : ℕ) {d : ℕ} (before : d ≡ previous t k) where
+  fault_here : fault t.full t.round d (task_at t k) k ≡ fault_at t k
   unfolding fault_at
-  fault_here = e ∙ ap (λ (d : ℕ). fault t.full t.round d (task_at t k) k) before
+  fault_here = ap (λ (d : ℕ). fault t.full t.round d (task_at t k) k) before
 
-  module _ (none : lowest (faulty t) k ≡ k) {n : ℕ} (m : n ≡ (answer v).0) where
-    pub walk_stops : (n ≡ 0 → ⊥) → k < t.count → v ≡ first (faulty t) (fault_at t) Passed t.count
-    walk_stops h l = fault_here ∙ sym (first_found _ _ _ _ k none l (at-fault t k fault_here (λ z. h (m ∙ z))))
+  module _ (none : lowest (faulty t) k ≡ k) where
+    pub walk_stops : {e : Fault} → Err e ≡ fault t.full t.round d (task_at t k) k → k < t.count → Err e ≡ first (faulty t) (fault_at t) passing t.count
+    walk_stops {e} f l = let here = f ∙ fault_here in here ∙ sym (first_found _ _ _ _ k none l (at-fault t k here (fault_counts e)))
 
-    pub walk_on : n ≡ 0 → lowest (faulty t) (k + 1) ≡ k + 1
-    walk_on h = lowest-next _ k none (no_fault t k fault_here (sym m ∙ h))
+    pub walk_on : {u : Unit {0}} → Ok u ≡ fault t.full t.round d (task_at t k) k → lowest (faulty t) (k + 1) ≡ k + 1
+    walk_on f = lowest-next _ k none (no_fault t k (f ∙ fault_here) refl)

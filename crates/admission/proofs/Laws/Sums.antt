@@ -13,7 +13,9 @@ use Rattle.units.specs.declared.Steps.{Steps}
 use Rattle.units.specs.Amounts.{ticks, steps, up, given}
 use Rattle.units.specs.Folds.{over, sum, lowest, first}
 use Rattle.units.proofs.Laws.Folds.{sum-next, lowest-next, first_found, first_none}
-use Rattle.verdict.specs.declared.Verdict.TheVariants.{Passed, Synchronization}
+use Rattle.std.specs.Prelude.{Err}
+use Rattle.verdict.specs.declared.Fault.TheVariants.{Synchronization}
+use Rattle.verdict.specs.Verdict.{passing}
 use Rattle.table.specs.declared.Table.{Table}
 use Rattle.table.specs.Table.{D, C, S}
 use Rattle.admission.specs.Admission.{ticks_in_round, B, synchronization_sum, overloaded}
@@ -64,7 +66,7 @@ module _ (t : Table) (l : List Steps) where
   unfolding sum lowest over
   summed_none b = record { within = omega arith; upto = refl; small = omega arith; none = refl; blocks = b }
 
-  pub summed_end : {x i : ℕ} → Summed x i → t.count ≤ i → Passed ≡ first (overloaded t) Synchronization Passed t.count
+  pub summed_end : {x i : ℕ} → Summed x i → t.count ≤ i → passing ≡ first (overloaded t) (λ i. Err (Synchronization i)) passing t.count
   summed_end {x} {i} w h = let e : i ≡ t.count = omega arith in sym (first_none _ _ _ _ (rw e at w.none))
 
   -- y is what i adds to the sum, and z what it may have to wait for
@@ -79,7 +81,7 @@ module _ (t : Table) (l : List Steps) where
   -- (the test stands first: it says what x, y and z are)
   module _ {x y z i : ℕ} where
     pub summed_above : t.round < z + (x + y) → Summed x i → y ≡ work t i → z ≡ ticks_in_round (get_or l i (steps 0)).0 (S t i) t.round (D t i) → i < t.count
-        → Synchronization i ≡ first (overloaded t) Synchronization Passed t.count
+        → Err (Synchronization i) ≡ first (overloaded t) (λ i. Err (Synchronization i)) passing t.count
     unfolding overloaded
     summed_above h w own waits inside =
         sym (first_found _ _ _ _ i w.none inside (lt-ltb t.round (synchronization_sum t i) (omega (arith, whole w own waits inside))))

@@ -1,6 +1,6 @@
 -- The verdict, by its cases. Assumes nothing.
 use Prim.Native.Nat.{ℕ, ◌≤◌, ◌<◌}
-use mathlib.Core.Path.{◌≡◌, sym, ap, ◌∙◌}
+use mathlib.Core.Path.{◌≡◌, refl, sym, ap, ◌∙◌}
 use mathlib.Core.Bool.{Bool, true, false}
 use mathlib.Core.Logic.{⊎_elim}
 use native.Mathlib.Nat.{eq-or-lt_of_le, le_refl}
@@ -8,9 +8,11 @@ use native.Mathlib.Omega.{arith}
 use borrow.Author.Tests.{lt-ltb, le-ltb}
 use Rattle.units.specs.Folds.{lowest, first}
 use Rattle.units.proofs.Laws.Folds.{lowest_bound, lowest-at, lowest-is, none_below, first-at, first_none}
-use Rattle.verdict.specs.declared.Verdict.{Verdict}
-use Rattle.verdict.specs.declared.Verdict.TheVariants as Is
-use Rattle.verdict.specs.Verdict.{answer}
+use Rattle.std.specs.Prelude.{Ok, Err}
+use Rattle.verdict.specs.declared.Fault.TheVariants as Is
+use Rattle.verdict.specs.declared.Fault.{Fault}
+use Rattle.verdict.specs.Verdict.{Verdict, passing, answer}
+use Rattle.verdict.proofs.Laws.{fault_counts}
 use Rattle.table.specs.declared.Table.{Table}
 use Rattle.admission.specs.Admission.{independent_sum, count_in_range, setting_in_range, fault_at, faulty, overloaded, sums, verdict}
 use Rattle.admission.proofs.Laws.Ranges.{no_test, CountFits, SettingFits, count_tells, count-holds, setting_tells, setting-holds, sound}
@@ -38,7 +40,7 @@ first_past p f z n {k} e l m = let s : k ≡ n = omega arith in sym (first_none 
 -- ---- the cases
 
 -- v is the first fault, found before the sums are known
-module _ (t : Table) {v : Verdict} (e : v ≡ first (faulty t) (fault_at t) Is.Passed t.count) (z : Verdict) where
+module _ (t : Table) {v : Verdict} (e : v ≡ first (faulty t) (fault_at t) passing t.count) (z : Verdict) where
   fault-first : (Zero v → ⊥) → v ≡ first (faulty t) (fault_at t) z t.count
   fault-first h =
       ⊎_elim
@@ -48,15 +50,15 @@ module _ (t : Table) {v : Verdict} (e : v ≡ first (faulty t) (fault_at t) Is.P
 
   fault_none : Zero v → first (faulty t) (fault_at t) z t.count ≡ z
   fault_none h =
-      first_holds _ _ z _ (first_tells (faulty t) (fault_at t) Is.Passed t.count (λ k f z. sound t k z f) (sym (ap (λ (v : Verdict). (answer v).0) e) ∙ h)).0
+      first_holds _ _ z _ (first_tells (faulty t) (fault_at t) passing t.count (λ k f z. sound t k z f) (sym (ap (λ (v : Verdict). (answer v).0) e) ∙ h)).0
 
 module _ (t : Table) where
-  pub says_count : (CountFits t → ⊥) → Is.Count ≡ verdict t
+  pub says_count : (CountFits t → ⊥) → Err Is.Count ≡ verdict t
   unfolding verdict
   says_count h = simp (sym (no_test (count_in_range t) (λ e. h (count_tells t e))))
 
   module _ (c : CountFits t) where
-    pub says_setting : (SettingFits t → ⊥) → Is.Setting ≡ verdict t
+    pub says_setting : (SettingFits t → ⊥) → Err Is.Setting ≡ verdict t
     unfolding verdict
     says_setting h = simp (count-holds t c, sym (no_test (setting_in_range t) (λ e. h (setting_tells t e))))
 
@@ -65,19 +67,19 @@ module _ (t : Table) where
       unfolding verdict
       says_rest = simp (count-holds t c, setting-holds t s)
 
-      -- the first fault, its number, and what the sums are
-      module _ {v : Verdict} (e : v ≡ first (faulty t) (fault_at t) Is.Passed t.count) {n : ℕ} (m : n ≡ (answer v).0) where
-        pub says_fault : (n ≡ 0 → ⊥) → v ≡ verdict t
-        says_fault h = fault-first t e (sums t) (λ z. h (m ∙ z)) ∙ sym says_rest
+      -- the first fault
+      pub says_fault : {e : Fault} → Err e ≡ first (faulty t) (fault_at t) passing t.count → Err e ≡ verdict t
+      says_fault {e} f = fault-first t f (sums t) (fault_counts e) ∙ sym says_rest
 
-        module _ (h : n ≡ 0) {g : ℕ} (i : g ≡ independent_sum t) where
-          says_sums : verdict t ≡ sums t
-          says_sums = says_rest ∙ fault_none t e (sums t) (sym m ∙ h)
+      -- there is none, and what the sums are
+      module _ {u : Unit {0}} (n : Ok u ≡ first (faulty t) (fault_at t) passing t.count) {g : ℕ} (i : g ≡ independent_sum t) where
+        says_sums : verdict t ≡ sums t
+        says_sums = says_rest ∙ fault_none t n (sums t) refl
 
-          pub says_independent : t.round < g → Is.Independent ≡ verdict t
-          unfolding sums
-          says_independent l = sym (says_sums ∙ rw (← i, lt-ltb _ _ l))
+        pub says_independent : t.round < g → Err Is.Independent ≡ verdict t
+        unfolding sums
+        says_independent l = sym (says_sums ∙ rw (← i, lt-ltb _ _ l))
 
-          pub says_overload : {r : Verdict} → g ≤ t.round → r ≡ first (overloaded t) Is.Synchronization Is.Passed t.count → r ≡ verdict t
-          unfolding sums
-          says_overload l f = f ∙ sym (says_sums ∙ rw (← i, le-ltb _ _ l))
+        pub says_overload : {r : Verdict} → g ≤ t.round → r ≡ first (overloaded t) (λ i. Err (Is.Synchronization i)) passing t.count → r ≡ verdict t
+        unfolding sums
+        says_overload l f = f ∙ sym (says_sums ∙ rw (← i, le-ltb _ _ l))

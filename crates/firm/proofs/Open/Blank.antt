@@ -10,7 +10,7 @@ use Rattle.units.specs.Amounts.{given, ticks, steps}
 use Rattle.units.specs.Clock.{tick, after}
 use Rattle.table.specs.declared.Table.{Table}
 use Rattle.table.specs.Table.{C, D, task_at}
-use Rattle.state.specs.declared.Answer.{Answer}
+use Rattle.state.specs.Answers.{Answer}
 use Rattle.state.specs.declared.Section.{Section}
 use Rattle.state.specs.Stack.{nothing}
 use Rattle.state.specs.declared.Report.{Report}

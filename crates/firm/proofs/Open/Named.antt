@@ -12,7 +12,7 @@ use borrow.Author.Tests.{eq-eqb}
 use Rattle.units.proofs.Laws.Folds.{both}
 use Rattle.table.specs.declared.Table.{Table}
 use Rattle.table.specs.Table.{D, ceiling}
-use Rattle.state.specs.{declared.State.State, declared.Answer.Answer, declared.Section.Section, declared.Report.TheVariants.CarryOn}
+use Rattle.state.specs.{declared.State.State, Answers.Answer, declared.Section.Section, declared.Report.TheVariants.CarryOn}
 use Rattle.promise.specs.History.{Machine, choose, report, answered, Line, line_of, sections, IsOpen, has_started, ends_at, latest, is_there, ticks_left, number_by, runner_by}
 use Rattle.promise.specs.Promise.{FirstBlocked, Kept}
 use Rattle.promise.proofs.History.List.{carries_on, there_on, standing_new}

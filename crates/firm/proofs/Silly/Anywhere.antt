@@ -10,7 +10,7 @@ use Rattle.units.specs.Amounts.{given}
 use Rattle.units.proofs.Laws.Folds.{both, listed_at}
 use Rattle.table.specs.declared.Table.{Table}
 use Rattle.table.specs.Table.{C}
-use Rattle.state.specs.{declared.Section.Section, declared.State.State, declared.Answer.Answer, State.Runner, declared.Report.Report, declared.Report.TheVariants.Done, Stack.no_section, State.job_at}
+use Rattle.state.specs.{declared.Section.Section, declared.State.State, Answers.Answer, State.Runner, declared.Report.Report, declared.Report.TheVariants.Done, Stack.no_section, State.job_at}
 use Rattle.state.specs.declared.Job.{Job}
 use Rattle.promise.specs.History.{Machine, Call, report, Line, line_of, lines, state_after, start, is_at, is_tick, is_own, steps_given, sections, is_last, ends_at, is_release, latest, is_there, ending_by, pending_by, absent_by, job_by}
 use Rattle.promise.specs.Promise.{Passed, Kept, Promise}

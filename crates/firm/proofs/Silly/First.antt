@@ -14,7 +14,7 @@ use Rattle.units.specs.Amounts.{given}
 use Rattle.units.specs.Clock.{after}
 use Rattle.units.proofs.Laws.Folds.{both}
 use Rattle.table.specs.declared.Table.{Table}
-use Rattle.state.specs.{declared.State.State, declared.Answer.Answer, State.Runner, declared.Report.Report, declared.Report.TheVariants.CarryOn, State.job_at}
+use Rattle.state.specs.{declared.State.State, Answers.Answer, State.Runner, declared.Report.Report, declared.Report.TheVariants.CarryOn, State.job_at}
 use Rattle.promise.specs.History.{Machine, Call, release, choose, report, answered, Line, line_of, lines, start, is_report, is_at, is_own, steps_given, longer, after_call, sections, is_last, ends_at, ticks_closed, takes_on, latest, is_there, wait, standing, number_by, runner_by}
 use Rattle.promise.specs.Promise.{Passed, Kept, Promise}
 use Rattle.promise.proofs.History.Counts.{one-tick, not-worked, same-sections, has-worked, next-sections}

@@ -10,7 +10,7 @@ use Rattle.units.specs.Clock.{tick}
 use Rattle.verdict.specs.Verdict.{answer}
 use Rattle.table.specs.declared.Table.{Table}
 use Rattle.admission.specs.Admission.{verdict}
-use Rattle.state.specs.{declared.State.State, declared.Start.Start, declared.Answer.Answer, declared.Report.TheVariants.CarryOn, State.empty, Answers.bare}
+use Rattle.state.specs.{declared.State.State, declared.Start.Start, Answers.Answer, declared.Report.TheVariants.CarryOn, State.empty, Answers.bare}
 use Rattle.state.proofs.Laws.Fresh.{fresh-is}
 use Rattle.choice.specs.Choice.{choice}
 use Rattle.report.specs.Report as AtReport

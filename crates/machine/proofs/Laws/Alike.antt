@@ -7,9 +7,8 @@ use borrow.Author.Tests.{leb-false, not-false}
 use Rattle.table.specs.declared.Table.{Table}
 use Rattle.table.proofs.Laws.Alike.{Alike}
 use Rattle.state.specs.declared.State.{State}
-use Rattle.state.specs.declared.Answer.{Answer}
 use Rattle.state.specs.declared.Report.{Report}
-use Rattle.state.specs.Answers.{bare}
+use Rattle.state.specs.Answers.{Answer, bare}
 use Rattle.choice.proofs.Laws.Alike.{Inside, choice-same}
 use Rattle.report.proofs.Laws.Alike as AtReport
 use Rattle.consistency.specs.Consistency.{consistent}

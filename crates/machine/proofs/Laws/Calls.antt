@@ -12,10 +12,9 @@ use Rattle.table.specs.declared.Table.{Table}
 use Rattle.table.specs.Table.{task_at}
 use Rattle.admission.proofs.Laws.Admitted.{admitted}
 use Rattle.state.specs.declared.State.{State}
-use Rattle.state.specs.declared.Answer.{Answer}
 use Rattle.state.specs.declared.Report.{Report}
 use Rattle.state.specs.State.{no_job, job_at}
-use Rattle.state.specs.Answers.{bare}
+use Rattle.state.specs.Answers.{Answer, bare}
 use Rattle.choice.specs.declared.Choice.{Choice}
 use Rattle.choice.specs.Choice.{choice}
 use Rattle.report.specs.Report as AtReport

@@ -7,8 +7,7 @@ use native.Mathlib.Omega.{arith}
 use lib.ListN.{length, set}
 use borrow.Author.Tests.{eq-eqb, ne_eqb}
 use Rattle.units.proofs.Laws.Tests.{failed, cond_yes, cond_no}
-use Rattle.verdict.specs.declared.Verdict.{Verdict}
-use Rattle.verdict.specs.Verdict.{answer}
+use Rattle.verdict.specs.Verdict.{Verdict, answer}
 use Rattle.table.specs.declared.Task.{Task}
 use Rattle.table.specs.declared.Table.{Table}
 use Rattle.table.specs.Table.{task_at}
@@ -16,18 +15,16 @@ use Rattle.admission.specs.Admission.{verdict}
 use Rattle.admission.proofs.Laws.Admitted.{admitted}
 use Rattle.state.specs.declared.Job.{Job}
 use Rattle.state.specs.declared.State.{State}
-use Rattle.state.specs.declared.Answer.{Answer}
 use Rattle.state.specs.declared.Report.{Report}
 use Rattle.state.specs.State.{job_at}
 use Rattle.state.specs.Order.{held_resources}
-use Rattle.state.specs.Answers.{bare}
+use Rattle.state.specs.Answers.{Answer, bare}
 use Rattle.choice.specs.Choice.{in_mid_tick, choice, turn}
 use Rattle.choice.proofs.Laws.Runner.{runner_below}
 use Rattle.report.proofs.Laws.Answers.{taken-answer}
 use Rattle.consistency.specs.Consistency.{consistent}
 use Rattle.seen.specs.declared.Examined.{Examined}
-use Rattle.seen.specs.declared.Reported.{Reported}
-use Rattle.seen.specs.Seen.{due, examined, runner_position, reported_by, late_by}
+use Rattle.seen.specs.Seen.{due, examined, Reported, runner_position, reported_by, late_by}
 use Rattle.seen.proofs.Laws.Examined.{fit, runner-there, handed_back}
 use Rattle.seen.proofs.Laws.Reports.{answered, report-by}
 use Rattle.machine.specs.Machine.{mid_tick, released, release, chosen, choose, report}

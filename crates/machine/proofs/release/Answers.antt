@@ -32,4 +32,4 @@ returns c =
     let good = fit _ _ c.examine-found.ensures c.if-not-found.false c.verdict_of-verdict.ensures c.number.ensures c.if-number-ne0.false in
     let between = tested c.mid_tick.ensures c.if-mid_tick.false in
     let next = found_free _ _ _ good between c.if-table-position.false c.job_at-job.ensures (omega arith) c.released-next.ensures c.task_at-task.ensures in
-    c.bare-2.ensures ∙ rw c.with_job.ensures (sym next)
+    c.bare.ensures ∙ rw c.with_job.ensures (sym next)

@@ -1,10 +1,11 @@
 use mathlib.Core.Bool.{true}
 use Rattle.machine.specs.Machine.{mid_tick}
 use Prim.Native.Nat.{◌^◌, ◌<◌}
-use mathlib.Core.Path.{◌≡◌, sym, ◌∙◌}
+use mathlib.Core.Path.{◌≡◌, refl, sym}
 use lib.ListN.{length}
 use Rattle.units.proofs.Laws.Tests.{told, tests}
 use Rattle.units.proofs.Laws.Folds.{long}
+use Rattle.state.proofs.Laws.Answers.{refusal_some}
 use Rattle.seen.proofs.Laws.Examined.{bad_table, unfit, fit}
 use Rattle.machine.proofs.Laws.Calls.{report_9}
 use Rattle.machine.proofs.Laws.Found.{found_below, found_number, found_late, found_closed}
@@ -17,16 +18,17 @@ returns-then-number-ne0 c = search (told, report_9, bad_table)
 pub returns-then-not-found : goal.returns-then-not-found
 returns-then-not-found c = search (told, report_9, unfit)
 
-pub reported-after-requires : goal.reported-after-requires
-reported-after-requires c = search found_below
+pub reported-requires : goal.reported-requires
+reported-requires c = search found_below
 
-pub returns-then-after-ne0 : goal.returns-then-after-ne0
-returns-then-after-ne0 c =
+pub returns-in_err-after : goal.returns-in_err-after
+returns-in_err-after c =
     let good = fit _ _ c.examine-found.ensures c.if-not-found.false c.verdict_of-verdict.ensures c.number.ensures c.if-number-ne0.false in
     let middle : mid_tick c.args.state.half ≡ true = search tests in
     let long : length c.args.state.jobs ≡ 16 = search (rules, long) in
     let ranged : c.args.state.tick.0 < 2 ^ 32 = search rules in
-    c.bare-then-after-ne0.ensures ∙ sym (found_number _ _ c.examine-found.ensures c.if-not-found.false _ c.reported-after.ensures c.runner_position-p.ensures good middle long ranged c.if-after-ne0.true)
+    let refused = found_number _ _ c.examine-found.ensures c.if-not-found.false _ c.in_err-after.ensures c.runner_position-p.ensures good middle long ranged (refusal_some _) in
+    search (rules, refused)
 
 pub returns-then-late : goal.returns-then-late
 returns-then-late c =
@@ -34,7 +36,7 @@ returns-then-late c =
     let middle : mid_tick c.args.state.half ≡ true = search tests in
     let long : length c.args.state.jobs ≡ 16 = search (rules, long) in
     let ranged : c.args.state.tick.0 < 2 ^ 32 = search rules in
-    c.bare-then-late.ensures ∙ sym (found_late _ _ c.examine-found.ensures c.if-not-found.false _ c.reported-after.ensures c.runner_position-p.ensures good middle long ranged c.if-after-ne0.false c.late.ensures c.if-late.true)
+    sym (found_late _ _ c.examine-found.ensures c.if-not-found.false _ c.in_ok-after.ensures c.runner_position-p.ensures good middle long ranged refl c.late.ensures c.if-late.true)
 
 pub returns : goal.returns
 returns c =
@@ -42,4 +44,4 @@ returns c =
     let middle : mid_tick c.args.state.half ≡ true = search tests in
     let long : length c.args.state.jobs ≡ 16 = search (rules, long) in
     let ranged : c.args.state.tick.0 < 2 ^ 32 = search rules in
-    rw c.closed.ensures (sym (found_closed _ _ c.examine-found.ensures c.if-not-found.false _ c.reported-after.ensures c.runner_position-p.ensures good middle long ranged c.if-after-ne0.false c.late.ensures c.if-late.false))
+    rw c.closed.ensures (sym (found_closed _ _ c.examine-found.ensures c.if-not-found.false _ c.in_ok-after.ensures c.runner_position-p.ensures good middle long ranged refl c.late.ensures c.if-late.false))

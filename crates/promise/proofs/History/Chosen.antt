@@ -10,7 +10,7 @@ use native.Mathlib.Omega.{arith}
 use Rattle.units.specs.Clock.{distance}
 use Rattle.table.specs.declared.Table.{Table}
 use Rattle.table.specs.Table.{D, ceiling, ceilings}
-use Rattle.state.specs.declared.Answer.{Answer}
+use Rattle.state.specs.Answers.{Answer}
 use Rattle.state.specs.declared.Section.{Section}
 use Rattle.state.specs.declared.Stack.{Stack}
 use Rattle.state.specs.declared.Mode.TheVariants.{Independent, Synchronization}

@@ -8,7 +8,7 @@ use Rattle.units.specs.declared.Tick.{Tick}
 use Rattle.units.specs.Clock.{tick, after}
 use Rattle.units.proofs.Laws.Clock.{after_none, after_more}
 use Rattle.table.specs.declared.Table.{Table}
-use Rattle.state.specs.declared.Answer.{Answer}
+use Rattle.state.specs.Answers.{Answer}
 use Rattle.state.specs.declared.Report.TheVariants.{CarryOn}
 use Rattle.state.specs.declared.State.{State}
 use Rattle.state.proofs.Laws.Fresh.{empty-is}

@@ -13,7 +13,7 @@ use Rattle.units.specs.Clock.{tick, after, distance}
 use Rattle.units.proofs.Laws.Folds.{both}
 use Rattle.table.specs.declared.Table.{Table}
 use Rattle.table.specs.Table.{task_at}
-use Rattle.state.specs.declared.Answer.{Answer}
+use Rattle.state.specs.Answers.{Answer}
 use Rattle.state.specs.declared.Half.TheVariants.{Second}
 use Rattle.state.specs.declared.Job.{Job}
 use Rattle.state.specs.declared.Place.{Place}

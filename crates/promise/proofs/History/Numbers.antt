@@ -15,7 +15,6 @@ use Rattle.units.specs.Sets.{has}
 use Rattle.units.proofs.Laws.Tests.{cond_yes}
 use Rattle.table.specs.declared.Table.{Table}
 use Rattle.table.specs.Table.{task_at, limit}
-use Rattle.state.specs.declared.Answer.{Answer}
 use Rattle.state.specs.declared.Section.{Section}
 use Rattle.state.specs.declared.Stack.{Stack}
 use Rattle.state.specs.declared.Half.TheVariants.{First, Second}
@@ -23,7 +22,7 @@ use Rattle.state.specs.declared.Report.{Report}
 use Rattle.state.specs.declared.Report.TheVariants.{CarryOn, Done, Take, Give}
 use Rattle.state.specs.declared.State.{State}
 use Rattle.state.specs.State.{job_at, Runner}
-use Rattle.state.specs.Answers.{bare}
+use Rattle.state.specs.Answers.{Answer, bare}
 use Rattle.state.specs.Stack.{section_at}
 use Rattle.state.specs.Order.{holds, held_resources}
 use Rattle.choice.specs.Choice.{turn}

@@ -12,7 +12,7 @@ use borrow.Author.Tests.{lt-ltb, eqb-true}
 use Rattle.units.proofs.Laws.Folds.{both}
 use Rattle.table.specs.declared.Table.{Table}
 use Rattle.table.specs.Table.{task_at, I}
-use Rattle.state.specs.declared.Answer.{Answer}
+use Rattle.state.specs.Answers.{Answer}
 use Rattle.state.specs.declared.Job.{Job}
 use Rattle.state.specs.declared.Section.{Section}
 use Rattle.state.specs.declared.Half.TheVariants.{Second}

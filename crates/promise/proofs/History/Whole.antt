@@ -9,7 +9,7 @@ use Rattle.units.proofs.Laws.Folds.{listed-length}
 use Rattle.table.specs.declared.Table.{Table}
 use Rattle.table.specs.declared.Task.{Task}
 use Rattle.table.specs.Table.{task_at}
-use Rattle.state.specs.declared.Answer.{Answer}
+use Rattle.state.specs.Answers.{Answer}
 use Rattle.state.specs.declared.Job.{Job}
 use Rattle.state.specs.declared.Report.{Report}
 use Rattle.state.specs.declared.Report.TheVariants.{CarryOn, Done, Take, Give}

@@ -19,12 +19,13 @@ use Rattle.table.specs.declared.Table.{Table}
 use Rattle.table.specs.Table.{task_at, limit}
 use Rattle.state.specs.declared.Job.{Job}
 use Rattle.state.specs.declared.State.{State}
-use Rattle.state.specs.declared.Answer.{Answer}
 use Rattle.state.specs.declared.Report.{Report}
 use Rattle.state.specs.declared.Report.TheVariants.{CarryOn, Done, Take, Give}
+use Rattle.state.specs.declared.Ending.{Ending}
+use Rattle.state.specs.declared.Ending.TheVariants as Ends
 use Rattle.state.specs.State.{job_at, Runner}
 use Rattle.state.specs.Order.{holds, holds_any, held_resources}
-use Rattle.state.specs.Answers.{bare}
+use Rattle.state.specs.Answers.{Answer, ending_number, bare}
 use Rattle.choice.specs.declared.Turn.{Turn}
 use Rattle.choice.specs.Choice.{turn}
 use Rattle.report.specs.declared.Outcome.{Outcome}
@@ -158,8 +159,8 @@ abbrev pub outcome : Table → State → Turn → ℕ → Report → Outcome
 outcome t s u p said = settled (task_at t p) said (worked (task_at t p) u.speed (job_at s p))
 
 -- of a report that is taken
-abbrev pub taken-answer : State → List Job → Turn → ℕ → Answer
-taken-answer s jobs u ending = record { number = 0; state = closed s jobs; runner = u.runner; mode = u.mode; speed = u.speed; ending = ending }
+abbrev pub taken-answer : State → List Job → Turn → Ending → Answer
+taken-answer s jobs u ending = record { number = 0; state = closed s jobs; runner = u.runner; mode = u.mode; speed = u.speed; ending = ending_number ending }
 
 module _ (t : Table) (s : State) where
   -- the report of a turn, by who runs in it
@@ -167,14 +168,14 @@ module _ (t : Table) (s : State) where
   unfolding report
   report-as said {u} e h = ap (λ (v : Turn). report_as t s v v.runner said) (sym e) ∙ ap (λ (r : Runner). report_as t s u r said) h
 
-  closes : (jobs : List Job) (u : Turn) (ending : ℕ) → late (closed s jobs) ≡ false → finished s jobs u ending ≡ taken-answer s jobs u ending
+  closes : (jobs : List Job) (u : Turn) (ending : Ending) → late (closed s jobs) ≡ false → finished s jobs u ending ≡ taken-answer s jobs u ending
   unfolding finished
   closes jobs u ending h = rw h
 
   -- nobody runs
   module _ (idles : (turn t s).runner ≡ None) where
-    pub idle-closes : late (closed s s.jobs) ≡ false → report t s CarryOn ≡ taken-answer s s.jobs (turn t s) 0
-    idle-closes h = report-as CarryOn refl idles ∙ closes s.jobs (turn t s) 0 h
+    pub idle-closes : late (closed s s.jobs) ≡ false → report t s CarryOn ≡ taken-answer s s.jobs (turn t s) Ends.GoesOn
+    idle-closes h = report-as CarryOn refl idles ∙ closes s.jobs (turn t s) Ends.GoesOn h
 
     pub idle-objects : (said : Report) → (said ≡ CarryOn) ⊎ (report t s said ≡ bare 14 s)
     idle-objects CarryOn = inl refl
@@ -205,7 +206,7 @@ abbrev Refuses : State → Answer → Type 0
 Refuses s a = (a.number ≡ 0 → ⊥) → a ≡ bare a.number s
 
 module _ (s : State) (u : Turn) where
-  finished-refuses : (jobs : List Job) (ending : ℕ) → Refuses s (finished s jobs u ending)
+  finished-refuses : (jobs : List Job) (ending : Ending) → Refuses s (finished s jobs u ending)
   unfolding finished
   finished-refuses jobs ending = go (late (closed s jobs))
     where
@@ -214,7 +215,7 @@ module _ (s : State) (u : Turn) where
       go false h = absurd (h refl)
 
   idle-refuses : (said : Report) → Refuses s (report_idle s u said)
-  idle-refuses CarryOn = finished-refuses s.jobs 0
+  idle-refuses CarryOn = finished-refuses s.jobs Ends.GoesOn
   idle-refuses Done = λ h. refl
   idle-refuses (Take r) = λ h. refl
   idle-refuses Give = λ h. refl

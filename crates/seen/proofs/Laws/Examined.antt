@@ -6,8 +6,7 @@ use mathlib.Core.Bool.{Bool, true, false, ◌&&◌, and-false}
 use lib.ListN.{length}
 use borrow.Author.Tests.{eq-eqb, ne_eqb}
 use Rattle.units.proofs.Laws.Tests.{and-true}
-use Rattle.verdict.specs.declared.Verdict.{Verdict}
-use Rattle.verdict.specs.Verdict.{answer}
+use Rattle.verdict.specs.Verdict.{Verdict, answer}
 use Rattle.table.specs.declared.Table.{Table}
 use Rattle.admission.specs.Admission.{verdict}
 use Rattle.state.specs.declared.State.{State}

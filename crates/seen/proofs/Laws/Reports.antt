@@ -14,12 +14,12 @@ use Rattle.table.specs.declared.Table.{Table}
 use Rattle.table.specs.Table.{task_at}
 use Rattle.state.specs.declared.Job.{Job}
 use Rattle.state.specs.declared.State.{State}
-use Rattle.state.specs.declared.Answer.{Answer}
+use Rattle.state.specs.declared.Ending.TheVariants as Ends
 use Rattle.state.specs.declared.Report.{Report}
 use Rattle.state.specs.declared.Report.TheVariants.{CarryOn, Done, Take, Give}
 use Rattle.state.specs.State.{no_job, job_at, Runner}
 use Rattle.state.specs.Order.{held_resources}
-use Rattle.state.specs.Answers.{bare}
+use Rattle.state.specs.Answers.{Answer, bare}
 use Rattle.choice.specs.declared.Turn.{Turn}
 use Rattle.choice.specs.Choice.{turn}
 use Rattle.choice.proofs.Laws.Runner.{runner_below}
@@ -27,8 +27,7 @@ use Rattle.report.specs.declared.Outcome.{Outcome}
 use Rattle.report.specs.Report.{objection, worked, settled, finished, report_idle, report_run, report}
 use Rattle.report.proofs.Laws.Jobs.{Fate, done, spent, stopped, goes, settled_is}
 use Rattle.report.proofs.Laws.Answers.{outcome, taken-answer, report-as}
-use Rattle.seen.specs.declared.Reported.{Reported}
-use Rattle.seen.specs.Seen.{due, runner_position, reported, reported_by, late_by}
+use Rattle.seen.specs.Seen.{due, runner_position, Reported, reported, reported_by, late_by}
 use Rattle.seen.proofs.Laws.Late.{late-idle, late-ran}
 
 -- a job that is there after its tick has the deadline that it had
@@ -72,7 +71,7 @@ module _ (t : Table) (s : State) (long : length s.jobs ≡ 16) (small : s.tick.0
     runs = go (eqb number 0) refl
       where
         go : (b : Bool) → eqb number 0 ≡ b → cond b (finished s (set s.jobs p after.job) u after.ending) (bare number s)
-            ≡ answered s (due s) u p (cond b (record { number = 0; job = after.job; ending = after.ending }) (record { number = number; job = job_at s p; ending = 0 }))
+            ≡ answered s (due s) u p (cond b (record { number = 0; job = after.job; ending = after.ending }) (record { number = number; job = job_at s p; ending = Ends.GoesOn }))
         go true e = rw (late-ran s small p after.job (omega arith) was (settled_keeps (task_at t p) said (worked (task_at t p) u.speed (job_at s p))))
         go false e = sym (cond_no _ _ e)
 

@@ -6,13 +6,23 @@ use mathlib.Core.List.{List, [], ◌∷◌}
 use native.Mathlib.Decide.{dec_lt}
 use native.Mathlib.Omega.{arith}
 use lib.Dec.{ltb}
+use lib.ListN.{length, take}
+use mathlib.Core.Bool.{or-false}
+use Prim.Native.Nat.{zero, suc, min}
+use native.Mathlib.Decide.{dec_le}
+use Rattle.std.specs.List.{list_any, fold}
+use Rattle.std.proofs.lemmas.List.Folds.{list_any-append}
+use Rattle.std.proofs.lemmas.List.Sums.{fold-append}
+use Rattle.units.proofs.Laws.Folds.{over-same, over_past}
+use Rattle.std.proofs.lemmas.List.{get_or-take, length-take}
+use Rattle.state.proofs.Laws.Holders.{or-cond}
 use borrow.Author.Tests.{lt-ltb, le-ltb, ltb-true, eq-eqb, eqb-true}
 use Rattle.units.specs.Folds.{over, some, listed}
 use Rattle.units.proofs.Laws.Folds.{both, some_tells, some_holds, Filled, listed-length, listed_at, listed-all}
 use Rattle.units.proofs.Laws.Tests.{cond_yes, cond_no, and-true}
 use Rattle.state.specs.declared.Section.{Section}
 use Rattle.state.specs.declared.Stack.{Stack}
-use Rattle.state.specs.Stack.{no_section, section_at, stacked, nothing, any_on}
+use Rattle.state.specs.Stack.{no_section, section_at, in_use, stacked, nothing, any_on}
 use Rattle.state.specs.Order.{holds_any, holds}
 
 -- ---- a stack that is made
@@ -105,6 +115,42 @@ module _ (p : Section → Bool) (h : Stack) where
 
   pub on_ended : (i : ℕ) → i ≤ 4 → 4 ≤ i → some on_at i ≡ false → false ≡ any_on p h
   on_ended i l m e = on_all i l m (sym e)
+
+-- ---- the sections in use, as code goes over them: what is gathered from them is what is gathered over the four places
+
+module _ (f : ℕ → Section) where
+  any-listed : (p : Section → Bool) (n : ℕ) → list_any p (listed f n) ≡ some (λ i. p (f i)) n
+  unfolding some listed over
+  any-listed p zero = refl
+  any-listed p (suc n) = list_any-append p (listed f n) (f n ∷ []) ∙ rw (any-listed p n, or-false) (or-cond _ (p (f n)))
+
+  fold-listed : {A : Type 0} (g : A → Section → A) (z : A) (n : ℕ) → fold g z (listed f n) ≡ over (λ i. true) (λ i a. g a (f i)) z n
+  unfolding listed over
+  fold-listed g z zero = refl
+  fold-listed g z (suc n) = fold-append g z (listed f n) (f n ∷ []) ∙ rw (fold-listed g z n)
+
+module _ (h : Stack) where
+  reached : {A : Type 0} (p q : ℕ → Bool) (f : ℕ → A → A) (z : A) → ((k : ℕ) → k < h.depth → q k ≡ p k) → ((k : ℕ) → h.depth ≤ k → q k ≡ false) → over p f z (min h.depth 4) ≡ over q f z 4
+  reached p q f z here past = sym (go (dec_le h.depth 4))
+    where
+      go : Dec (h.depth ≤ 4) → over q f z 4 ≡ over p f z (min h.depth 4)
+      go (yes l) = sym (over_past q f z h.depth 4 l (λ k a b. past k a)) ∙ over-same q p f f z h.depth here (λ k x b. refl) ∙ ap (over p f z) (omega arith)
+      go (no l) = over-same q p f f z 4 (λ k b. here k (omega (arith, l))) (λ k x b. refl) ∙ ap (over p f z) (omega (arith, l))
+
+  pub any_in_use : (p : Section → Bool) → list_any p (in_use h) ≡ any_on p h
+  unfolding any_on some
+  any_in_use p =
+      let here = λ (k : ℕ) (l : k < h.depth). ap (λ (b : Bool). b && p (section_at h k)) (lt-ltb _ _ l) in
+      let past = λ (k : ℕ) (l : h.depth ≤ k). ap (λ (b : Bool). b && p (section_at h k)) (le-ltb _ _ l) in
+      any-listed (section_at h) p (min h.depth 4) ∙ reached (λ i. p (section_at h i)) _ (λ k b. true) false here past
+
+  pub fold_in_use : {A : Type 0} (g : A → Section → A) (z : A) → fold g z (in_use h) ≡ over (λ i. ltb i h.depth) (λ i a. g a (section_at h i)) z 4
+  fold_in_use g z = fold-listed (section_at h) g z (min h.depth 4) ∙ reached (λ i. true) (λ i. ltb i h.depth) _ z (λ k l. lt-ltb _ _ l) (λ k l. le-ltb _ _ l)
+
+-- what code lends
+pub lent_in_use : (h : Stack) → length h.sections ≡ 4 → (n : ℕ) → n ≡ min h.depth 4 → take n h.sections ≡ in_use h
+lent_in_use h e n m =
+    listed-all no_section (section_at h) (take n h.sections) (min h.depth 4) (omega (arith, length-take n h.sections, e, m)) (λ k l. get_or-take n h.sections k no_section (omega (arith, m)))
 
 -- ---- the resources
 

@@ -4,7 +4,7 @@ use mathlib.Core.Bool.{or-true, or-false, false≢true}
 use native.Mathlib.Nat.{pow-succ', pow-le-pow_right, div-div-eq-div-mul, div-eq_of_lt}
 use lib.Dec.{eqb-suc-suc, eqb-zero-suc, eqb-suc-zero}
 use lib.Count.{ones, ones_cat, count_trailing_zeros, under, trailing_le}
-use lib.Bits.{bit_or, or_shr, or_mod, or_lt, or_shifted_r}
+use lib.Bits.{bit_and, bit_or, and_mask, or_shr, or_mod, or_lt, or_shifted_r}
 use Rattle.units.specs.Folds.{over, lowest}
 use Rattle.units.specs.Sets.{set, has, with, how_many}
 use Rattle.units.proofs.Laws.Folds.{over-same, up_to, lowest-is}
@@ -124,10 +124,18 @@ power_fits k l = let two : 0 < 2 = omega arith in omega (arith, pow-le-pow_right
 shifted : (k : ℕ) → 2 ^ k < 2 ^ 16 → (1 * 2 ^ k) % 2 ^ 16 ≡ 2 ^ k
 shifted k fits = ap (λ (x : ℕ). x % 2 ^ 16) (one-mul (2 ^ k)) ∙ mod-eq_of_lt fits
 
+-- `m >> k & 1`
+pub has_bit : (m k : ℕ) → eqb (bit_and (m / 2 ^ k) 1) 1 ≡ has m k
+unfolding has
+has_bit m k = ap (λ (x : ℕ). eqb x 1) (and_mask (m / 2 ^ k) 1)
+
+pub has_none : (m k : ℕ) → m < 2 ^ 16 → 16 ≤ k → false ≡ has m k
+has_none m k h l = sym (has_past 16 m k h l)
+
 -- `m | 1 << k`
-pub with-or : (m k : ℕ) → m < 2 ^ 16 → k < 16 → bit_or m ((1 * 2 ^ k) % 2 ^ 16) ≡ with m k
+pub with_or : (m k : ℕ) → m < 2 ^ 16 → k < 16 → bit_or m ((1 * 2 ^ k) % 2 ^ 16) ≡ with m k
 unfolding with
-with-or m k h l =
+with_or m k h l =
     let fits = power_fits k l in
     rw (shifted k fits)
     (same_set 16 _ _ (or_lt 16 m (2 ^ k) h fits) (set-lt _ 16)
@@ -142,7 +150,7 @@ with_past m k h l =
 with_above : (m k : ℕ) → m < 2 ^ k → k < 16 → with m k ≡ m + 2 ^ k
 with_above m k h l =
     let fits = power_fits k l in
-    sym (with-or m k (omega arith) l) ∙ ap (bit_or m) (shifted k fits) ∙ or_power m k h
+    sym (with_or m k (omega arith) l) ∙ ap (bit_or m) (shifted k fits) ∙ or_power m k h
 
 -- a loop that gathers a set: the next position joins it, or does not
 pub set_next : (p : ℕ → Bool) (k : ℕ) {m m' : ℕ} → k < 16 → m ≡ set p k → m' ≡ cond (p k) (with m k) m → m' ≡ set p (k + 1)
@@ -190,5 +198,5 @@ zeros_below (suc n) m j l = go (m % 2) refl j (zeros_below n (m / 2)) l
     go zero e (suc j) h l = has-suc m j ∙ h j (le_of_suc-le-suc l)
     go (suc d) e j h l = absurd (not-suc-le-zero l)
 
-pub zeros-lowest : (n m : ℕ) → count_trailing_zeros n m ≡ lowest (has m) n
-zeros-lowest n m = sym (lowest-is (has m) n (count_trailing_zeros n m) (trailing_le n m) (zeros-at n m) (zeros_below n m))
+pub zeros_lowest : (n m : ℕ) → count_trailing_zeros n m ≡ lowest (has m) n
+zeros_lowest n m = sym (lowest-is (has m) n (count_trailing_zeros n m) (trailing_le n m) (zeros-at n m) (zeros_below n m))

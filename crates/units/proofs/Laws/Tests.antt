@@ -1,5 +1,7 @@
 -- What a test that a function made says of its rule. Assumes nothing.
-use Rattle.std.proofs.Common.{◌≡◌, Bool, true, false, cond, not, ◌&&◌, ◌||◌, sym, refl, ap, ◌∙◌, ltb-true, le-ltb, lt-ltb, eq-eqb, ne_eqb, eqb-true, le-leb, leb-true}
+use Rattle.std.proofs.Common.{◌≡◌, ℕ, arith, ltb, leb, Bool, true, false, cond, not, ◌&&◌, ◌||◌, sym, refl, ap, ◌∙◌, ltb-true, le-ltb, lt-ltb, eq-eqb, ne_eqb, eqb-true, le-leb, leb-true}
+use Rattle.std.specs.Ordering.{is_lt, is_le, nat_cmp}
+use Rattle.std.proofs.lemmas.Bool.Decides.{nat_tests}
 use mathlib.Core.Path.{◌∙⁻¹◌}
 use mathlib.Core.Bool.{false≢true}
 use borrow.Author.Tests.{not-true, not-false, lt-leb}
@@ -31,6 +33,20 @@ module _ {b : Bool} where
 
   pub not_no : b ≡ false → not b ≡ true
   not_no e = ap not e
+
+-- what the derived order of amounts tells
+pub order_lt : (a b : ℕ) → is_lt (nat_cmp a b) ≡ ltb a b
+order_lt a b = grind (arith, nat_tests)
+
+pub order_le : (a b : ℕ) → is_le (nat_cmp a b) ≡ leb a b
+order_le a b = grind (arith, nat_tests)
+
+module _ (a b : ℕ) {r v : Bool} where
+  pub told_lt : r ≡ is_lt (nat_cmp a b) → r ≡ v → ltb a b ≡ v
+  told_lt e h = sym (order_lt a b) ∙ sym e ∙ h
+
+  pub told_le : r ≡ is_le (nat_cmp a b) → r ≡ v → leb a b ≡ v
+  told_le e h = sym (order_le a b) ∙ sym e ∙ h
 
 -- the arm that a test chooses
 module _ {A : Type 0} (x y : A) {b : Bool} where

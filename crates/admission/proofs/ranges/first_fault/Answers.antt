@@ -1,6 +1,7 @@
-use mathlib.Core.Path.{refl}
+use mathlib.Core.Path.{refl, sym, ◌∙◌}
 use native.Mathlib.Numerals.{add-one}
 use native.Mathlib.Omega.{arith}
+use Rattle.std.proofs.lemmas.Result.{err_from_is_err_and}
 use Rattle.units.specs.Folds.{over, lowest}
 use Rattle.admission.proofs.Laws.Ranges.{walk_stops, walk_on}
 use Rattle.admission.proofs.Laws.Verdict.{first_past}
@@ -10,11 +11,11 @@ pub loop-k-init : goal.loop-k-init
 unfolding lowest over
 loop-k-init c = (omega arith, refl, refl)
 
-pub returns-then-number-ne0 : goal.returns-then-number-ne0
-returns-then-number-ne0 c = search walk_stops
+pub returns-in_err-fault_of : goal.returns-in_err-fault_of
+returns-in_err-fault_of c = let p = err_from_is_err_and c.from_residual.result c.from_residual.ensures.1 in rw (p.1, p.2) (search (walk_stops, sym c.in_err-fault_of.was ∙ c.fault_of.ensures))
 
 pub loop-k-preserved : goal.loop-k-preserved
-loop-k-preserved c = (omega arith, rw add-one, search walk_on)
+loop-k-preserved c = (omega arith, rw add-one, search (walk_on, sym c.in_ok-fault_of.was ∙ c.fault_of.ensures))
 
 pub returns : goal.returns
 returns c = search first_past

@@ -4,13 +4,14 @@ use borrow.Author.Tests.{ne_eqb}
 use Rattle.table.specs.declared.Task.{Task}
 use Rattle.state.specs.declared.Job.{Job}
 use Rattle.state.specs.declared.Stack.{Stack}
+use Rattle.state.specs.declared.Ending.TheVariants.{GoesOn}
 use Rattle.report.specs.declared.Outcome.{Outcome}
 use Rattle.report.specs.Report.{holding, at_limit, onward}
 use Rattle.units.proofs.Laws.Tests.{tests}
 use Rattle.reporter.proofs.endings.onward.Goals as goal
 
 goes : (task : Task) (j : Job) (h : Stack) (next : Job) → next ≡ holding h j → (j.used.0 ≡ task.budget.0 → ⊥) → (full : Bool) → full ≡ false → full ≡ at_limit task h
-    → ◌≡◌ {A = Outcome} (record { job = next; ending = 0 }) (onward task j h)
+    → ◌≡◌ {A = Outcome} (record { job = next; ending = GoesOn }) (onward task j h)
 goes task j h next e n full f g = rw (ne_eqb _ _ n, ← g, f, e)
 
 pub returns-then-job-task : goal.returns-then-job-task
