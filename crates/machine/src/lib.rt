@@ -16,7 +16,7 @@ mod parts;
 pub fn release(table: Table, state: State, position: usize) -> Result<Success, Refusal>
     ensures { told state result ≡ release table state position }
 {
-    admission::verdict_of(table).map_err(|_| Refusal::Inconsistent)?;
+    admission::verdict_of(table)?;
     let found = examine(table, state);
     if !found.fits {
         return Err(Refusal::Inconsistent);
@@ -40,7 +40,7 @@ pub fn release(table: Table, state: State, position: usize) -> Result<Success, R
 pub fn choose(table: Table, state: State) -> Result<Success, Refusal>
     ensures { told state result ≡ choose table state }
 {
-    admission::verdict_of(table).map_err(|_| Refusal::Inconsistent)?;
+    admission::verdict_of(table)?;
     let found = examine(table, state);
     if !found.fits {
         return Err(Refusal::Inconsistent);
@@ -63,7 +63,7 @@ pub fn choose(table: Table, state: State) -> Result<Success, Refusal>
 pub fn report(table: Table, state: State, said: Report) -> Result<Success, Refusal>
     ensures { told state result ≡ report table state said }
 {
-    admission::verdict_of(table).map_err(|_| Refusal::Inconsistent)?;
+    admission::verdict_of(table)?;
     let found = examine(table, state);
     if !found.fits {
         return Err(Refusal::Inconsistent);

@@ -7,4 +7,5 @@ pub mod Rules
 pub mod Others
 pub mod Late
 pub mod Reports
+pub mod Told
 pub mod Examined

@@ -4,11 +4,12 @@
 ghost use Rattle.std.specs.Prelude.{◌≡◌, Ok};
 ghost use Rattle.units.specs.Folds.{listed};
 ghost use Rattle.state.specs.State.{no_job, fresh};
+ghost use Rattle.state.specs.declared.Refusal.TheVariants.{Inconsistent};
 ghost use Rattle.state.specs.Answers.{refusal_number, ending_number, bare, told};
 
 use table::Table;
 use units::{Steps, Tick, Ticks};
-use verdict::Verdict;
+use verdict::{Fault, Verdict};
 
 mod holders;
 
@@ -192,6 +193,15 @@ impl Refusal {
         ensures { result ≡ refusal_number self }
     {
         self as u8
+    }
+}
+
+// No state is consistent with a table that does not pass.
+impl From<Fault> for Refusal {
+    ghost from_gives = { λ _ r. r ≡ Inconsistent };
+
+    fn from(_fault: Fault) -> Refusal {
+        Refusal::Inconsistent
     }
 }
 

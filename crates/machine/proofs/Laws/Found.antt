@@ -1,13 +1,15 @@
 -- What a call answers, by what its calls gave: the verdict of the table, then the examination of the state. Assumes nothing.
-use Rattle.std.specs.Prelude.{Some}
+use Rattle.std.specs.Prelude.{Some, Err}
 use Prim.Native.Nat.{ℕ, ◌^◌, ◌≤◌, ◌<◌}
-use mathlib.Core.Path.{◌≡◌, sym, ap, ap₂, ◌∙◌}
+use mathlib.Core.Path.{◌≡◌, refl, sym, ap, ap₂, ◌∙◌}
 use mathlib.Core.Bool.{Bool, true, false, not}
 use native.Mathlib.Omega.{arith}
 use lib.ListN.{length, set}
 use borrow.Author.Tests.{eq-eqb, ne_eqb}
 use Rattle.units.proofs.Laws.Tests.{failed, cond_yes, cond_no}
-use Rattle.verdict.specs.Verdict.{Verdict, answer}
+use Rattle.verdict.specs.declared.Fault.{Fault}
+use Rattle.verdict.specs.Verdict.{Verdict, passing, answer}
+use Rattle.verdict.proofs.Laws.{fault_counts}
 use Rattle.table.specs.declared.Task.{Task}
 use Rattle.table.specs.declared.Table.{Table}
 use Rattle.table.specs.Table.{task_at}
@@ -25,14 +27,22 @@ use Rattle.report.proofs.Laws.Answers.{taken-answer}
 use Rattle.consistency.specs.Consistency.{consistent}
 use Rattle.seen.specs.declared.Examined.{Examined}
 use Rattle.seen.specs.Seen.{due, examined, Reported, runner_position, reported_by, late_by}
-use Rattle.seen.proofs.Laws.Examined.{fit, runner-there, handed_back}
+use Rattle.seen.proofs.Laws.Examined.{bad_table, fit, runner-there, handed_back}
 use Rattle.seen.proofs.Laws.Reports.{answered, report-by}
 use Rattle.machine.specs.Machine.{mid_tick, released, release, chosen, choose, report}
 use Rattle.machine.proofs.Laws.Calls.{report_11, release_12, release-taken, choose_makes, report-runs}
 
--- a position in a table that passed is below 16
-pub found_place : (t : Table) {p : ℕ} {v : Verdict} {n : ℕ} → p < t.count → v ≡ verdict t → n ≡ (answer v).0 → n ≡ 0 → p < 16
-found_place t l e f z = let few = (admitted t (ap (λ (v : Verdict). (answer v).0) (sym e) ∙ sym f ∙ z)).count.high in omega arith
+-- a table with a fault, and one without: of the latter a position is below 16
+module _ (t : Table) where
+  pub faulty : (s : State) {f : Fault} → Err f ≡ verdict t → consistent t s ≡ false
+  faulty s {f} e = bad_table t s e refl (fault_counts f)
+
+  module _ (e : passing ≡ verdict t) where
+    pub found_fit : (s : State) {x : Examined} → x ≡ examined t s → not x.fits ≡ false → consistent t s ≡ true
+    found_fit s f h = fit t s f h e refl refl
+
+    pub found_place : {p : ℕ} → p < t.count → p < 16
+    found_place l = let few = (admitted t (ap (λ (v : Verdict). (answer v).0) (sym e))).count.high in omega arith
 
 -- a release, with the job and the task at its position found
 module _ (t : Table) (s : State) (p : ℕ) (good : consistent t s ≡ true) (between : mid_tick s.half ≡ false) (there : p < t.count) {j : Job} (e : j ≡ job_at s p) where
@@ -44,13 +54,12 @@ module _ (t : Table) (s : State) (p : ℕ) (good : consistent t s ≡ true) (bet
   found_free l h i = release-taken t s good between p there (rw (← e) l) ∙ rw (h, i)
 
 -- what each call gave, and what each test said of it, up to whether the state is in mid-tick
-module _ (t : Table) (s : State) {v : Verdict} {n : ℕ} {x : Examined} {h : Bool} (a : v ≡ verdict t) (b : n ≡ (answer v).0) (z : n ≡ 0) (e : x ≡ examined t s)
-    (f : not x.fits ≡ false) (g : h ≡ mid_tick s.half) where
+module _ (t : Table) (s : State) {x : Examined} {h : Bool} (a : passing ≡ verdict t) (e : x ≡ examined t s) (f : not x.fits ≡ false) (g : h ≡ mid_tick s.half) where
   pub found_waiting : (p : ℕ) → h ≡ false → p < t.count → 0 < (job_at s p).wait.0 → release t s p ≡ bare 12 s
-  found_waiting p m l w = release_12 t s (fit t s e f a b z) (sym g ∙ m) p l w
+  found_waiting p m l w = release_12 t s (found_fit t a s e f) (sym g ∙ m) p l w
 
   pub found_between : (said : Report) → not h ≡ true → report t s said ≡ bare 11 s
-  found_between said m = report_11 t s (fit t s e f a b z) said (failed g m)
+  found_between said m = report_11 t s (found_fit t a s e f) said (failed g m)
 
 -- a choice and a report, with what the examination handed back
 module _ (t : Table) (s : State) {found : Examined} (e : found ≡ examined t s) (fits : not found.fits ≡ false) where

@@ -1,35 +1,40 @@
 use native.Mathlib.Omega.{arith}
 use mathlib.Core.Path.{sym, ◌∙◌}
+use borrow.Author.Rules.{rules}
 use Rattle.units.proofs.Laws.Tests.{told, tested}
-use Rattle.seen.proofs.Laws.Examined.{bad_table, unfit, fit}
+use Rattle.seen.proofs.Laws.Examined.{unfit}
 use Rattle.machine.proofs.Laws.Calls.{release_9, release_11, release_10}
-use Rattle.machine.proofs.Laws.Found.{found_place, found_free}
+use Rattle.machine.proofs.Laws.Found.{faulty, found_fit, found_place, found_free}
 use Rattle.machine.proofs.release.Goals as goal
 
-pub returns-then-number-ne0 : goal.returns-then-number-ne0
-returns-then-number-ne0 c = search (told, release_9, bad_table)
+pub returns-in_err-verdict_of : goal.returns-in_err-verdict_of
+returns-in_err-verdict_of c = search (rules, told, release_9, faulty)
 
 pub returns-then-not-found : goal.returns-then-not-found
 returns-then-not-found c = search (told, release_9, unfit)
 
 pub returns-then-mid_tick : goal.returns-then-mid_tick
-returns-then-mid_tick c = search (told, release_11, fit)
+returns-then-mid_tick c =
+    let good = found_fit _ c.in_ok-verdict_of.ensures _ c.examine-found.ensures c.if-not-found.false in
+    search (told, release_11)
 
 pub returns-then-table-position : goal.returns-then-table-position
-returns-then-table-position c = search (told, release_10, fit)
+returns-then-table-position c =
+    let good = found_fit _ c.in_ok-verdict_of.ensures _ c.examine-found.ensures c.if-not-found.false in
+    search (told, release_10)
 
 pub job_at-job-requires : goal.job_at-job-requires
-job_at-job-requires c = found_place _ c.if-table-position.false c.verdict_of-verdict.ensures c.number.ensures c.if-number-ne0.false
+job_at-job-requires c = found_place _ c.in_ok-verdict_of.ensures c.if-table-position.false
 
 pub task_at-task-requires : goal.task_at-task-requires
-task_at-task-requires c = found_place _ c.if-table-position.false c.verdict_of-verdict.ensures c.number.ensures c.if-number-ne0.false
+task_at-task-requires c = found_place _ c.in_ok-verdict_of.ensures c.if-table-position.false
 
 pub with_job-requires : goal.with_job-requires
-with_job-requires c = found_place _ c.if-table-position.false c.verdict_of-verdict.ensures c.number.ensures c.if-number-ne0.false
+with_job-requires c = found_place _ c.in_ok-verdict_of.ensures c.if-table-position.false
 
 pub returns : goal.returns
 returns c =
-    let good = fit _ _ c.examine-found.ensures c.if-not-found.false c.verdict_of-verdict.ensures c.number.ensures c.if-number-ne0.false in
+    let good = found_fit _ c.in_ok-verdict_of.ensures _ c.examine-found.ensures c.if-not-found.false in
     let between = tested c.mid_tick.ensures c.if-mid_tick.false in
     let next = found_free _ _ _ good between c.if-table-position.false c.job_at-job.ensures (omega arith) c.released-next.ensures c.task_at-task.ensures in
     c.bare.ensures ∙ rw c.with_job.ensures (sym next)

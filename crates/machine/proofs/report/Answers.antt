@@ -6,14 +6,14 @@ use lib.ListN.{length}
 use Rattle.units.proofs.Laws.Tests.{told, tests}
 use Rattle.units.proofs.Laws.Folds.{long}
 use Rattle.state.proofs.Laws.Answers.{refusal_some}
-use Rattle.seen.proofs.Laws.Examined.{bad_table, unfit, fit}
+use Rattle.seen.proofs.Laws.Examined.{unfit}
 use Rattle.machine.proofs.Laws.Calls.{report_9}
-use Rattle.machine.proofs.Laws.Found.{found_below, found_number, found_late, found_closed}
+use Rattle.machine.proofs.Laws.Found.{faulty, found_fit, found_below, found_number, found_late, found_closed}
 use borrow.Author.Rules.{rules}
 use Rattle.machine.proofs.report.Goals as goal
 
-pub returns-then-number-ne0 : goal.returns-then-number-ne0
-returns-then-number-ne0 c = search (told, report_9, bad_table)
+pub returns-in_err-verdict_of : goal.returns-in_err-verdict_of
+returns-in_err-verdict_of c = search (rules, told, report_9, faulty)
 
 pub returns-then-not-found : goal.returns-then-not-found
 returns-then-not-found c = search (told, report_9, unfit)
@@ -23,7 +23,7 @@ reported-requires c = search found_below
 
 pub returns-in_err-after : goal.returns-in_err-after
 returns-in_err-after c =
-    let good = fit _ _ c.examine-found.ensures c.if-not-found.false c.verdict_of-verdict.ensures c.number.ensures c.if-number-ne0.false in
+    let good = found_fit _ c.in_ok-verdict_of.ensures _ c.examine-found.ensures c.if-not-found.false in
     let middle : mid_tick c.args.state.half ≡ true = search tests in
     let long : length c.args.state.jobs ≡ 16 = search (rules, long) in
     let ranged : c.args.state.tick.0 < 2 ^ 32 = search rules in
@@ -32,7 +32,7 @@ returns-in_err-after c =
 
 pub returns-then-late : goal.returns-then-late
 returns-then-late c =
-    let good = fit _ _ c.examine-found.ensures c.if-not-found.false c.verdict_of-verdict.ensures c.number.ensures c.if-number-ne0.false in
+    let good = found_fit _ c.in_ok-verdict_of.ensures _ c.examine-found.ensures c.if-not-found.false in
     let middle : mid_tick c.args.state.half ≡ true = search tests in
     let long : length c.args.state.jobs ≡ 16 = search (rules, long) in
     let ranged : c.args.state.tick.0 < 2 ^ 32 = search rules in
@@ -40,7 +40,7 @@ returns-then-late c =
 
 pub returns : goal.returns
 returns c =
-    let good = fit _ _ c.examine-found.ensures c.if-not-found.false c.verdict_of-verdict.ensures c.number.ensures c.if-number-ne0.false in
+    let good = found_fit _ c.in_ok-verdict_of.ensures _ c.examine-found.ensures c.if-not-found.false in
     let middle : mid_tick c.args.state.half ≡ true = search tests in
     let long : length c.args.state.jobs ≡ 16 = search (rules, long) in
     let ranged : c.args.state.tick.0 < 2 ^ 32 = search rules in

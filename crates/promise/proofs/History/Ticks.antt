@@ -12,9 +12,11 @@ use borrow.Author.Tests.{lt-ltb, eqb-true}
 use Rattle.units.proofs.Laws.Folds.{both}
 use Rattle.table.specs.declared.Table.{Table}
 use Rattle.table.specs.Table.{task_at, I}
-use Rattle.state.specs.Answers.{Answer}
+use Rattle.state.specs.Answers.{Answer, ending_number}
 use Rattle.state.specs.declared.Job.{Job}
 use Rattle.state.specs.declared.Section.{Section}
+use Rattle.state.specs.declared.Ending.{Ending}
+use Rattle.state.specs.declared.Ending.TheVariants as Ending·
 use Rattle.state.specs.declared.Half.TheVariants.{Second}
 use Rattle.state.specs.declared.Mode.{Mode}
 use Rattle.state.specs.declared.Mode.TheVariants.{Synchronization}
@@ -58,14 +60,14 @@ module _ {t : Table} {passed : Passed written t} {s : State} (good : Good passed
     a = reply (report said)
 
     -- a tick that is closed was the turn's
-    closes : {A : Type 0} (of : Answer → A) (by : Turn → A) → ((jobs : List Job) (ending : ℕ) → of (taken-answer s jobs (turn t s) ending) ≡ by (turn t s)) → of a ≡ by (turn t s)
+    closes : {A : Type 0} (of : Answer → A) (by : Turn → A) → ((jobs : List Job) (ending : Ending) → of (taken-answer s jobs (turn t s) ending) ≡ by (turn t s)) → of a ≡ by (turn t s)
     closes of by same = go (keep good (report said)).made
       where
         go : Made t s (report said) a → of a ≡ by (turn t s)
         go (refused n l e) = absurd (omega (arith, l, zero, ap (λ (b : Answer). b.number) e))
         go (takes-on p c l f e) = absurd (false≢true (sym (ap is_report c)))
         go (chooses c e) = absurd (false≢true (sym (ap is_report c)))
-        go (idles c m r f e) = ap of e ∙ same s.jobs 0
+        go (idles c m r f e) = ap of e ∙ same s.jobs Ending·.GoesOn
         go (runs p q c m r l f g e) = ap of e ∙ same (set s.jobs p (outcome t s (turn t s) p q).job) (outcome t s (turn t s) p q).ending
 
     pub chosen_is : (c : Answer) × (standing h ≡ some c) × (a.runner ≡ c.runner) × (a.mode ≡ c.mode) × (a.speed ≡ c.speed)
@@ -131,23 +133,23 @@ module _ {t : Table} {passed : Passed written t} {s : State} (good : Good passed
     ends b e = ap (λ (b : Bool). cond b (how_ended (report said)) 0) (sym (ends_here here (latest p h) p t (tells good listed p f).going) ∙ e)
 
     -- what is not done is cut
-    cut : (q : Report) → (Report.settled (task_at t p) q job).ending ≡ 2 → how_ended (report q) ≡ 2
+    cut : (q : Report) → (Report.settled (task_at t p) q job).ending ≡ Ending·.Cut → how_ended (report q) ≡ 2
     cut CarryOn e = refl
-    cut Done e = absurd (omega (arith, e))
+    cut Done e = absurd (omega (arith, ap ending_number e))
     cut (Take r) e = refl
     cut Give e = refl
 
-    by_fate : Onward t p (latest p h) (report said) ran → Fate (task_at t p) said job o → o.ending ≡ ended_as
-    by_fate (inl x) (goes y n k g) = ap (λ (o : Outcome). o.ending) g ∙ sym (ends false x.going)
+    by_fate : Onward t p (latest p h) (report said) ran → Fate (task_at t p) said job o → ran.ending ≡ ended_as
+    by_fate (inl x) (goes y n k g) = ap (λ (o : Outcome). ending_number o.ending) g ∙ sym (ends false x.going)
     by_fate (inl x) (done e g) = absurd (false≢true (sym (pending-after ∙ ap (λ (o : Outcome). o.job.pending) g) ∙ x.pending))
     by_fate (inl x) (spent e g) = absurd (false≢true (sym (pending-after ∙ ap (λ (o : Outcome). o.job.pending) g) ∙ x.pending))
     by_fate (inl x) (stopped b g) = absurd (false≢true (sym (pending-after ∙ ap (λ (o : Outcome). o.job.pending) g) ∙ x.pending))
     by_fate (inr x) (goes y n k g) = absurd (false≢true (sym x.1 ∙ pending-after ∙ ap (λ (o : Outcome). o.job.pending) g ∙ f))
-    by_fate (inr x) (done e g) = ap (λ (o : Outcome). o.ending) g ∙ sym (ends true x.0 ∙ ap (λ (q : Report). how_ended (report q)) e)
-    by_fate (inr x) (spent e g) = let two = ap (λ (o : Outcome). o.ending) g in two ∙ sym (ends true x.0 ∙ cut said two)
-    by_fate (inr x) (stopped b g) = let two = ap (λ (o : Outcome). o.ending) g in two ∙ sym (ends true x.0 ∙ cut said two)
+    by_fate (inr x) (done e g) = ap (λ (o : Outcome). ending_number o.ending) g ∙ sym (ends true x.0 ∙ ap (λ (q : Report). how_ended (report q)) e)
+    by_fate (inr x) (spent e g) = let two = ap (λ (o : Outcome). o.ending) g in ap ending_number two ∙ sym (ends true x.0 ∙ cut said two)
+    by_fate (inr x) (stopped b g) = let two = ap (λ (o : Outcome). o.ending) g in ap ending_number two ∙ sym (ends true x.0 ∙ cut said two)
 
-    ending-ran : p < t.count → s.half ≡ Second → Fair (task_at t p) (job_at s p) (held_resources s) said → o.ending ≡ ended_as
+    ending-ran : p < t.count → s.half ≡ Second → Fair (task_at t p) (job_at s p) (held_resources s) said → ran.ending ≡ ended_as
     ending-ran l m g = by_fate (onward good p (latest p h) (tells good listed p f) (report said) ran (runs p said refl m r l f g refl)) (settled_is (task_at t p) said job)
 
   -- ---- the endings
@@ -170,7 +172,7 @@ module _ {t : Table} {passed : Passed written t} {s : State} (good : Good passed
       go (refused n l e) = ends_as refl e refl
       go (takes-on p c l f e) = ends_as c e refl
       go (chooses c e) = ends_as c e (none_ends (chosen (choice t s)) (choice t s).turn.runner)
-      go (idles c m r f e) = ends_as c e (sym (ap (ending_by t h (line (report CarryOn) (taken-answer s s.jobs (turn t s) 0))) r))
+      go (idles c m r f e) = ends_as c e (sym (ap (ending_by t h (line (report CarryOn) (taken-answer s s.jobs (turn t s) Ending·.GoesOn))) r))
       go (runs p said c m r l f g e) = ends_as c e (ending-ran p said r f l m g ∙ sym (ap (ending_by t h (line (report said) (ran p said r f))) r))
 
   -- ---- the speeds

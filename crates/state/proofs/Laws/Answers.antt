@@ -57,14 +57,17 @@ refusal_some Late e = omega (arith, e)
 abbrev number : Answer → ℕ
 number a = a.number
 
-pub told-same : (s : State) (x y : Result Success Refusal) → told s x ≡ told s y → x ≡ y
-told-same s (Ok a) (Ok b) e = ap Ok (λ i. record {
+pub success-same : (s : State) (a b : Success) → told s (Ok a) ≡ told s (Ok b) → a ≡ b
+success-same s a b e = λ i. record {
   state = (e i).state;
   runner = (e i).runner;
   mode = (e i).mode;
   speed = (e i).speed;
   ending = ending-same a.ending b.ending (ap (λ (a : Answer). a.ending) e) i;
-})
+}
+
+pub told-same : (s : State) (x y : Result Success Refusal) → told s x ≡ told s y → x ≡ y
+told-same s (Ok a) (Ok b) e = ap Ok (success-same s a b e)
 told-same s (Ok a) (Err r) e = absurd (refusal_some r (sym (ap number e)))
 told-same s (Err q) (Ok b) e = absurd (refusal_some q (ap number e))
 told-same s (Err q) (Err r) e = ap Err (refusal-same q r (ap number e))
