@@ -17,10 +17,7 @@ pub fn release(table: Table, state: State, position: usize) -> Result<Success, R
     ensures { told state result ≡ release table state position }
 {
     admission::verdict_of(table)?;
-    let found = examine(table, state);
-    if !found.fits {
-        return Err(Refusal::Inconsistent);
-    }
+    examine(table, state).ok_or(Refusal::Inconsistent)?;
     if parts::mid_tick(state.half) {
         return Err(Refusal::WrongHalf);
     }
@@ -41,10 +38,7 @@ pub fn choose(table: Table, state: State) -> Result<Success, Refusal>
     ensures { told state result ≡ choose table state }
 {
     admission::verdict_of(table)?;
-    let found = examine(table, state);
-    if !found.fits {
-        return Err(Refusal::Inconsistent);
-    }
+    let found = examine(table, state).ok_or(Refusal::Inconsistent)?;
     if parts::mid_tick(state.half) {
         return Err(Refusal::WrongHalf);
     }
@@ -64,10 +58,7 @@ pub fn report(table: Table, state: State, said: Report) -> Result<Success, Refus
     ensures { told state result ≡ report table state said }
 {
     admission::verdict_of(table)?;
-    let found = examine(table, state);
-    if !found.fits {
-        return Err(Refusal::Inconsistent);
-    }
+    let found = examine(table, state).ok_or(Refusal::Inconsistent)?;
     if !parts::mid_tick(state.half) {
         return Err(Refusal::WrongHalf);
     }

@@ -6,42 +6,43 @@ use lib.ListN.{length}
 use Rattle.units.proofs.Laws.Tests.{told, tests}
 use Rattle.units.proofs.Laws.Folds.{long}
 use Rattle.state.proofs.Laws.Answers.{refusal_some}
-use Rattle.seen.proofs.Laws.Examined.{unfit}
 use Rattle.machine.proofs.Laws.Calls.{report_9}
-use Rattle.machine.proofs.Laws.Found.{faulty, found_fit, found_below, found_number, found_late, found_closed}
+use Rattle.machine.proofs.Laws.Found.{faulty, found_none, found_fit, found_below, found_number, found_late, found_closed}
 use borrow.Author.Rules.{rules}
 use Rattle.machine.proofs.report.Goals as goal
 
 pub returns-in_err-verdict_of : goal.returns-in_err-verdict_of
 returns-in_err-verdict_of c = search (rules, told, report_9, faulty)
 
-pub returns-then-not-found : goal.returns-then-not-found
-returns-then-not-found c = search (told, report_9, unfit)
+pub returns-in_err-found : goal.returns-in_err-found
+returns-in_err-found c =
+    let none = found_none _ _ c.examine.ensures c.in_err-found.ensures.value in
+    search (rules, told, report_9, none)
 
 pub reported-requires : goal.reported-requires
-reported-requires c = search found_below
+reported-requires c = found_below _ _ c.examine.ensures c.in_ok-found.ensures.ok_part
 
 pub returns-in_err-after : goal.returns-in_err-after
 returns-in_err-after c =
-    let good = found_fit _ c.in_ok-verdict_of.ensures _ c.examine-found.ensures c.if-not-found.false in
+    let good = found_fit _ c.in_ok-verdict_of.ensures _ c.examine.ensures c.in_ok-found.ensures.ok_part in
     let middle : mid_tick c.args.state.half ≡ true = search tests in
     let long : length c.args.state.jobs ≡ 16 = search (rules, long) in
     let ranged : c.args.state.tick.0 < 2 ^ 32 = search rules in
-    let refused = found_number _ _ c.examine-found.ensures c.if-not-found.false _ c.in_err-after.ensures c.runner_position-p.ensures good middle long ranged (refusal_some _) in
+    let refused = found_number _ _ c.examine.ensures c.in_ok-found.ensures.ok_part _ c.in_err-after.ensures c.runner_position-p.ensures good middle long ranged (refusal_some _) in
     search (rules, refused)
 
 pub returns-then-late : goal.returns-then-late
 returns-then-late c =
-    let good = found_fit _ c.in_ok-verdict_of.ensures _ c.examine-found.ensures c.if-not-found.false in
+    let good = found_fit _ c.in_ok-verdict_of.ensures _ c.examine.ensures c.in_ok-found.ensures.ok_part in
     let middle : mid_tick c.args.state.half ≡ true = search tests in
     let long : length c.args.state.jobs ≡ 16 = search (rules, long) in
     let ranged : c.args.state.tick.0 < 2 ^ 32 = search rules in
-    sym (found_late _ _ c.examine-found.ensures c.if-not-found.false _ c.in_ok-after.ensures c.runner_position-p.ensures good middle long ranged refl c.late.ensures c.if-late.true)
+    sym (found_late _ _ c.examine.ensures c.in_ok-found.ensures.ok_part _ c.in_ok-after.ensures c.runner_position-p.ensures good middle long ranged refl c.late.ensures c.if-late.true)
 
 pub returns : goal.returns
 returns c =
-    let good = found_fit _ c.in_ok-verdict_of.ensures _ c.examine-found.ensures c.if-not-found.false in
+    let good = found_fit _ c.in_ok-verdict_of.ensures _ c.examine.ensures c.in_ok-found.ensures.ok_part in
     let middle : mid_tick c.args.state.half ≡ true = search tests in
     let long : length c.args.state.jobs ≡ 16 = search (rules, long) in
     let ranged : c.args.state.tick.0 < 2 ^ 32 = search rules in
-    rw c.closed.ensures (sym (found_closed _ _ c.examine-found.ensures c.if-not-found.false _ c.in_ok-after.ensures c.runner_position-p.ensures good middle long ranged refl c.late.ensures c.if-late.false))
+    rw c.closed.ensures (sym (found_closed _ _ c.examine.ensures c.in_ok-found.ensures.ok_part _ c.in_ok-after.ensures c.runner_position-p.ensures good middle long ranged refl c.late.ensures c.if-late.false))
