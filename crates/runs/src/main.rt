@@ -2,7 +2,7 @@
 #![tactic(auto)]
 
 use line::Line;
-use state::{Answer, Report, State};
+use state::{Refusal, Report, State, Success};
 use std::io::Read;
 use table::Table;
 
@@ -11,17 +11,10 @@ mod line;
 mod print;
 mod word;
 
-// Both halves of a tick. Where one is refused, the state is as before the first.
-fn tick(table: Table, state: State, said: Report) -> Answer {
-    let chosen = machine::choose(table, state);
-    if chosen.number != 0 {
-        return chosen;
-    }
-    let answer = machine::report(table, chosen.state, said);
-    if answer.number != 0 {
-        return Answer::bare(answer.number, state);
-    }
-    answer
+// Both halves of a tick.
+fn tick(table: Table, state: State, said: Report) -> Result<Success, Refusal> {
+    let chosen = machine::choose(table, state)?;
+    machine::report(table, chosen.state, said)
 }
 
 fn fresh(rt: &impl Print, table: Table, tick: u64) -> State {
@@ -48,15 +41,15 @@ fn set(rt: &impl Print, table: Table, state: State, line: Line) -> State {
     }
 }
 
-// What the machine answers; where it is not called, 0 and the state as it is set.
-fn answered(rt: &impl Print, table: Table, state: State, line: Line) -> Answer {
+// What the machine answers; where it is not called, the state as it is set.
+fn answered(rt: &impl Print, table: Table, state: State, line: Line) -> Result<Success, Refusal> {
     let word = line.word;
     match word {
         word::RELEASE => machine::release(table, state, line.eighth as usize),
         word::CHOOSE => machine::choose(table, state),
         word::REPORT => machine::report(table, state, desk::said(line)),
         word::TICK => tick(table, state, desk::said(line)),
-        _ => Answer::bare(0, set(rt, table, state, line)),
+        _ => Ok(Success::bare(set(rt, table, state, line))),
     }
 }
 
@@ -69,22 +62,24 @@ fn tabled(table: Table, line: Line) -> Table {
     }
 }
 
+// A refusal is shown with its number, and leaves the state as it was.
 fn run(rt: &impl Print, table: Table, state: State, line: Line) -> State {
-    let answer = answered(rt, table, state, line);
-    let runner = answer.runner;
-    let mode = answer.mode;
+    let (number, success) = match answered(rt, table, state, line) {
+        Ok(success) => (0, success),
+        Err(refusal) => (refusal.number(), Success::bare(state)),
+    };
     print::answer(
         rt,
         line.word,
         state.tick.0,
         line.eighth,
-        answer.number,
-        runner,
-        mode,
-        answer.speed,
-        answer.ending,
+        number,
+        success.runner,
+        success.mode,
+        success.speed,
+        success.ending.number(),
     );
-    answer.state
+    success.state
 }
 
 // The next byte of the text; 0 at its end.
