@@ -5,3 +5,4 @@ pub mod Verdict
 pub mod Admitted
 pub mod Alike
 pub mod Room
+pub mod Slices

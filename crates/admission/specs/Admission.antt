@@ -1,5 +1,5 @@
 -- The admission test: which of the answers 0 and 2 to 8 a table gets.
-use Rattle.std.specs.Prelude.{ℕ, zero, suc, ◌+◌, ◌*◌, ◌/◌, ◌%◌, Bool, not, ◌&&◌, cond, ltb, leb, eqb, Err}
+use Rattle.std.specs.Prelude.{ℕ, zero, suc, ◌+◌, ◌*◌, ◌/◌, ◌%◌, Bool, not, ◌&&◌, cond, ltb, leb, eqb, Err, List, length}
 use Rattle.units.specs.Amounts.{up, given}
 use Rattle.units.specs.Folds.{sum, largest, all, first}
 use Rattle.verdict.specs.declared.Fault.TheVariants.{Count, Setting, Range, Divisor, Order, Independent, Synchronization}
@@ -11,6 +11,10 @@ use Rattle.table.specs.Table.{task_at, D, C, I, S, limit, ceiling}
 -- "Up(C, I) × (G/D)": the ticks that some work takes at some speed in a round, once in each D
 unfoldable pub ticks_in_round : ℕ → ℕ → ℕ → ℕ → ℕ
 ticks_in_round work speed g d = up work (given speed) * (g / d)
+
+-- the table of these settings and tasks
+abbrev pub of_tasks : ℕ → ℕ → List Task → Table
+of_tasks full g tasks = record { full = full; round = g; count = length tasks; tasks = tasks }
 
 -- "Independent: the sum over all positions of Up(C, I) × (G/D)"
 unfoldable pub independent_sum : Table → ℕ

@@ -2,7 +2,7 @@
 #![tactic(auto)]
 
 ghost use Rattle.std.specs.Prelude.{◌≡◌};
-ghost use Rattle.admission.specs.Admission.{verdict};
+ghost use Rattle.admission.specs.Admission.{count_in_range, setting_in_range, verdict};
 
 use table::Table;
 use verdict::{Fault, Verdict};
@@ -11,34 +11,33 @@ mod blocking;
 mod ranges;
 mod sums;
 
+fn count_in_range(t: &Table) -> bool
+    ensures { result ≡ count_in_range t.now }
+{
+    (1..=Table::TASKS).contains(&t.count)
+}
+
+fn setting_in_range(t: &Table) -> bool
+    ensures { result ≡ setting_in_range t.now }
+{
+    (1..=Table::FULL).contains(&t.full) && (1..=Table::ROUND).contains(&t.round)
+}
+
 // The verdict of a table.
+#[tactic(auto, using(crate::proofs::Laws::Ranges::count_high))]
 pub fn verdict_of(t: Table) -> Verdict
     ensures { result ≡ verdict t }
 {
-    if t.count < 1 {
+    if !count_in_range(&t) {
         return Err(Fault::Count);
     }
-    if Table::TASKS < t.count {
-        return Err(Fault::Count);
-    }
-    if t.full < 1 {
+    if !setting_in_range(&t) {
         return Err(Fault::Setting);
     }
-    if Table::FULL < t.full {
-        return Err(Fault::Setting);
-    }
-    if t.round < 1 {
-        return Err(Fault::Setting);
-    }
-    if Table::ROUND < t.round {
-        return Err(Fault::Setting);
-    }
-    ranges::first_fault(t)?;
-    if (t.round as u64) < sums::independent_sum(t) {
+    let tasks = &t.tasks[..t.count];
+    ranges::first_fault(t.full, t.round, tasks)?;
+    if u64::from(t.round) < sums::independent_sum(t.round, tasks) {
         return Err(Fault::Independent);
     }
-    let deadlines = blocking::deadlines(t);
-    let ceilings = t.ceilings();
-    let blocks = blocking::blocks(t, deadlines, ceilings);
-    sums::first_overload(t, blocks)
+    sums::first_overload(t.round, tasks, &t.ceilings())
 }

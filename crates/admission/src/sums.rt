@@ -1,12 +1,13 @@
 // Numbers 7 and 8: what a round is asked for.
-ghost use Rattle.std.specs.Prelude.{◌≡◌, ℕ, ◌≤◌, ◌<◌, ◌*◌, get_or, Err};
-ghost use Rattle.units.specs.Amounts.{steps};
-ghost use Rattle.units.specs.Folds.{sum, first};
-ghost use Rattle.admission.specs.Admission.{ticks_in_round, independent_sum, overloaded, B};
+ghost use Rattle.std.specs.Prelude.{◌≡◌, ◌≤◌, ◌*◌, length, sum_by, Err};
+ghost use Rattle.units.specs.Folds.{first};
+ghost use Rattle.table.specs.Table.{ceilings};
+ghost use Rattle.admission.specs.Admission.{of_tasks, ticks_in_round, overloaded};
 ghost use Rattle.verdict.specs.declared.Fault.TheVariants.{Synchronization};
 ghost use Rattle.verdict.specs.Verdict.{passing};
 
-use table::Table;
+use crate::blocking;
+use table::Task;
 use units::{Steps, Ticks};
 use verdict::{Fault, Verdict};
 
@@ -18,38 +19,33 @@ fn ticks_in_round(work: Steps, speed: u8, round: u32, deadline: Ticks) -> u64
         return 0;
     }
     let ticks = work.up(Steps::given(speed));
-    (ticks.0 as u64) * ((round / (deadline.0 as u32)) as u64)
+    u64::from(ticks.0) * u64::from(round / u32::from(deadline.0))
 }
 
-pub(crate) fn independent_sum(t: Table) -> u64
-    requires { t.count ≤ 16 }
-    ensures { result ≡ independent_sum t }
+pub(crate) fn independent_sum(round: u32, tasks: &[Task]) -> u64
+    requires { length tasks.now ≤ 16 }
+    ensures { result ≡ sum_by (λ x. ticks_in_round x.budget.0 x.independent round x.deadline.0) tasks.now }
 {
-    let n = t.count;
-    let mut sum: u64 = 0;
-    for k in 0..n {
-        let task = t.tasks[k];
-        sum += ticks_in_round(task.budget, task.independent, t.round, task.deadline);
-    }
-    sum
+    tasks
+        .iter()
+        .map(|task| ticks_in_round(task.budget, task.independent, round, task.deadline))
+        .sum()
 }
 
-// The smallest position whose synchronization sum is above the round; `blocks` has B of each.
-pub(crate) fn first_overload(t: Table, blocks: [Steps; 16]) -> Verdict
-    requires { (t.count ≤ 16) × ((i : ℕ) → i < t.count → (get_or blocks i (steps 0)).0 ≡ B t i) }
-    ensures { result ≡ first (overloaded t) (λ i. Err (Synchronization i)) passing t.count }
+// The smallest position whose synchronization sum is above the round.
+pub(crate) fn first_overload(round: u32, tasks: &[Task], levels: &[Ticks; 8]) -> Verdict
+    requires { (length tasks.now ≤ 16) × (levels.now ≡ ceilings (of_tasks 0 round tasks.now)) }
+    ensures { result ≡ first (overloaded (of_tasks 0 round tasks.now)) (λ i. Err (Synchronization i)) passing (length tasks.now) }
 {
-    let n = t.count;
-    let mut sum: u64 = 0;
-    for i in 0..n {
-        let task = t.tasks[i];
-        let longest = blocks[i];
-        let next = sum + ticks_in_round(task.budget, task.synchronization, t.round, task.deadline);
-        let block = ticks_in_round(longest, task.synchronization, t.round, task.deadline);
-        if (t.round as u64) < block + next {
+    let mut sum = 0;
+    for (i, task) in tasks.iter().enumerate() {
+        let longest = blocking::block(levels, tasks, task.deadline);
+        let own = ticks_in_round(task.budget, task.synchronization, round, task.deadline);
+        let block = ticks_in_round(longest, task.synchronization, round, task.deadline);
+        if u64::from(round) < block + sum + own {
             return Err(Fault::Synchronization(i));
         }
-        sum = next;
+        sum += own;
     }
     Ok(())
 }

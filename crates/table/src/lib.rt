@@ -24,11 +24,10 @@ impl Task {
     pub fn limit(self, resource: u8) -> Steps
         ensures { result ≡ steps (limit self resource) }
     {
-        let r = resource as usize;
-        if r < 8 {
-            return self.limits[r];
-        }
-        Steps(0)
+        self.limits
+            .get(usize::from(resource))
+            .copied()
+            .unwrap_or(Steps(0))
     }
 }
 
@@ -38,7 +37,7 @@ pub struct Table {
     pub full: u8,
     pub round: u32,
     pub count: usize,
-    pub tasks: [Task; 16],
+    pub tasks: [Task; Table::TASKS],
 }
 
 impl Table {

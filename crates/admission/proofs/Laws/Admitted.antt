@@ -16,7 +16,7 @@ use Rattle.table.specs.declared.Table.{Table}
 use Rattle.table.proofs.Laws.Ceilings.{ceiling_user}
 use Rattle.table.specs.Table.{task_at, D, C, limit, ceiling}
 use Rattle.admission.specs.Admission.{B, independent_sum, synchronization_sum, count_in_range, setting_in_range, in_range, fault, previous, fault_at, faulty, overloaded, sums, verdict}
-use Rattle.admission.proofs.Laws.Ranges.{CountFits, SettingFits, NumbersFit, count_tells, setting_tells, range_tells, range_holds, sound, no_fault}
+use Rattle.admission.proofs.Laws.Ranges.{CountFits, SettingFits, NumbersFit, count_tells, count-holds, setting_tells, setting-holds, range_tells, range_holds, sound, no_fault}
 use Rattle.admission.proofs.Laws.Verdict.{Zero, first_tells, first_holds, says_rest}
 
 -- no section that can keep i waiting is longer than B
@@ -101,7 +101,7 @@ admitted t h =
 pub passes : (t : Table) → Admitted t → verdict t ≡ passing
 unfolding sums overloaded
 passes t a =
-    says_rest t a.count a.setting
+    says_rest t (count-holds t a.count) (setting-holds t a.setting)
     ∙ first_holds _ _ _ _ (λ k l. sound_holds t k record { range = range k l; divides = a.divides k l; order = order k l })
     ∙ rw (le-ltb _ _ a.independent) (first_holds _ _ _ _ (λ i l. le-ltb _ _ (a.synchronization i l)))
   where

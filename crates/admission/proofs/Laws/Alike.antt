@@ -21,7 +21,7 @@ module _ {t u : Table} (a : Alike t u) where
       → ticks_in_round (C t k) (speed (task_at t k)) t.round (D t k) ≡ ticks_in_round (C u k) (speed (task_at u k)) u.round (D u k)
   own speed k l = ap₂ (λ (x : Task) (g : ℕ). ticks_in_round x.budget.0 (speed x) g x.deadline.0) (a.tasks k l) a.round
 
-  independent-same : independent_sum t ≡ independent_sum u
+  pub independent-same : independent_sum t ≡ independent_sum u
   unfolding independent_sum
   independent-same = sum_same _ _ t.count (own (λ x. x.independent)) ∙ ap (sum _) a.count
 

@@ -48,6 +48,10 @@ module _ (t : Table) where
   unfolding setting_in_range
   setting-holds h = search tests
 
+-- the tasks that there are have a place each
+pub count_high : (t : Table) {r : Bool} → r ≡ count_in_range t → r ≡ true → t.count ≤ 16
+count_high t e h = (count_tells t (sym e ∙ h)).high
+
 pub record NumbersFit (f : ℕ) (k : Task) : Type 0 where
   pub d_low : 1 ≤ k.deadline.0
   pub d_high : k.deadline.0 ≤ k.period.0

@@ -1,12 +1,10 @@
 -- Laws of what a round is asked for. Assumes nothing.
 use Prim.Native.Nat.{ℕ, ◌+◌, ◌*◌, ◌/◌, ◌≤◌, ◌<◌, ◌^◌}
 use mathlib.Core.Path.{◌≡◌, refl, sym, ap, ap₂, ◌∙◌}
-use mathlib.Core.List.{List}
 use native.Mathlib.Nat.{div-zero, div-le_self, mul-zero, mul-le-mul}
 use native.Mathlib.Omega.{arith}
 use mir.Syntax.{w64}
 use mir.Val.{Fits}
-use lib.ListN.{get_or}
 use borrow.Author.Tests.{lt-ltb, le-ltb}
 use Rattle.units.specs.declared.Ticks.{Ticks}
 use Rattle.units.specs.declared.Steps.{Steps}
@@ -49,50 +47,45 @@ module _ (g d : ℕ) (l : g < 2 ^ 32) where
 pub sum_on : (f : ℕ → ℕ) (n : ℕ) {s y : ℕ} → y ≡ f n → s ≡ sum f n → s + y ≡ sum f (n + 1)
 sum_on f n {s} own upto = sum-next f n upto (ap (λ (y : ℕ). s + y) own)
 
--- ---- the walk for number 8: no position below i is overloaded, x is the sum up to there, and l has each position's B
+-- ---- the walk for number 8: no position below i is overloaded, and x is the sum up to there
 
 abbrev work : Table → ℕ → ℕ
 work t k = ticks_in_round (C t k) (S t k) t.round (D t k)
 
-module _ (t : Table) (l : List Steps) where
+module _ (t : Table) where
   pub record Summed (x i : ℕ) : Type 0 where
     pub within : i ≤ t.count
     pub upto : x ≡ sum (work t) i
     pub small : x ≤ i * (65535 * 4294967295)
     pub none : lowest (overloaded t) i ≡ i
-    pub blocks : (k : ℕ) → k < t.count → (get_or l k (steps 0)).0 ≡ B t k
 
-  pub summed_none : ((k : ℕ) → k < t.count → (get_or l k (steps 0)).0 ≡ B t k) → Summed 0 0
+  pub summed_none : Summed 0 0
   unfolding sum lowest over
-  summed_none b = record { within = omega arith; upto = refl; small = omega arith; none = refl; blocks = b }
+  summed_none = record { within = omega arith; upto = refl; small = omega arith; none = refl }
 
   pub summed_end : {x i : ℕ} → Summed x i → t.count ≤ i → passing ≡ first (overloaded t) (λ i. Err (Synchronization i)) passing t.count
   summed_end {x} {i} w h = let e : i ≡ t.count = omega arith in sym (first_none _ _ _ _ (rw e at w.none))
 
   -- y is what i adds to the sum, and z what it may have to wait for
-  module _ {x y z i : ℕ} (w : Summed x i) (own : y ≡ work t i) (waits : z ≡ ticks_in_round (get_or l i (steps 0)).0 (S t i) t.round (D t i)) (inside : i < t.count) where
+  module _ {x y z b i : ℕ} (w : Summed x i) (own : y ≡ work t i) (block : b ≡ B t i) (waits : z ≡ ticks_in_round b (S t i) t.round (D t i)) where
     next : x + y ≡ sum (work t) (i + 1)
     next = sum_on _ i own w.upto
 
-    whole : z + (x + y) ≡ synchronization_sum t i
+    whole : z + x + y ≡ synchronization_sum t i
     unfolding synchronization_sum
-    whole = ap₂ (λ (z s : ℕ). z + s) (waits ∙ ap (λ (b : ℕ). ticks_in_round b (S t i) t.round (D t i)) (w.blocks i inside)) next
+    whole =
+        let e : z + x + y ≡ z + (x + y) = omega arith in
+        e ∙ ap₂ (λ (z s : ℕ). z + s) (waits ∙ ap (λ (b : ℕ). ticks_in_round b (S t i) t.round (D t i)) block) next
 
-  -- (the test stands first: it says what x, y and z are)
-  module _ {x y z i : ℕ} where
-    pub summed_above : t.round < z + (x + y) → Summed x i → y ≡ work t i → z ≡ ticks_in_round (get_or l i (steps 0)).0 (S t i) t.round (D t i) → i < t.count
-        → Err (Synchronization i) ≡ first (overloaded t) (λ i. Err (Synchronization i)) passing t.count
+    pub summed_above : t.round < z + x + y → i < t.count → Err (Synchronization i) ≡ first (overloaded t) (λ i. Err (Synchronization i)) passing t.count
     unfolding overloaded
-    summed_above h w own waits inside =
-        sym (first_found _ _ _ _ i w.none inside (lt-ltb t.round (synchronization_sum t i) (omega (arith, whole w own waits inside))))
+    summed_above h inside = sym (first_found _ _ _ _ i w.none inside (lt-ltb t.round (synchronization_sum t i) (omega (arith, whole))))
 
-    pub summed_next : z + (x + y) ≤ t.round → Summed x i → y ≡ work t i → z ≡ ticks_in_round (get_or l i (steps 0)).0 (S t i) t.round (D t i) → i < t.count
-        → y ≤ 65535 * 4294967295 → Summed (x + y) (i + 1)
+    pub summed_next : z + x + y ≤ t.round → i < t.count → y ≤ 65535 * 4294967295 → Summed (x + y) (i + 1)
     unfolding overloaded
-    summed_next h w own waits inside s = record {
+    summed_next h inside s = record {
       within = omega arith;
-      upto = next w own waits inside;
+      upto = next;
       small = omega arith;
-      none = lowest-next _ i w.none (le-ltb t.round (synchronization_sum t i) (omega (arith, whole w own waits inside)));
-      blocks = w.blocks;
+      none = lowest-next _ i w.none (le-ltb t.round (synchronization_sum t i) (omega (arith, whole)));
     }

@@ -15,7 +15,7 @@ use Rattle.verdict.specs.Verdict.{Verdict, passing, answer}
 use Rattle.verdict.proofs.Laws.{fault_counts}
 use Rattle.table.specs.declared.Table.{Table}
 use Rattle.admission.specs.Admission.{independent_sum, count_in_range, setting_in_range, fault_at, faulty, overloaded, sums, verdict}
-use Rattle.admission.proofs.Laws.Ranges.{no_test, CountFits, SettingFits, count_tells, count-holds, setting_tells, setting-holds, sound}
+use Rattle.admission.proofs.Laws.Ranges.{sound}
 
 -- ---- an answer whose number is 0, and the first that is not
 
@@ -53,19 +53,19 @@ module _ (t : Table) {v : Verdict} (e : v ≡ first (faulty t) (fault_at t) pass
       first_holds _ _ z _ (first_tells (faulty t) (fault_at t) passing t.count (λ k f z. sound t k z f) (sym (ap (λ (v : Verdict). (answer v).0) e) ∙ h)).0
 
 module _ (t : Table) where
-  pub says_count : (CountFits t → ⊥) → Err Is.Count ≡ verdict t
+  pub says_count : count_in_range t ≡ false → Err Is.Count ≡ verdict t
   unfolding verdict
-  says_count h = simp (sym (no_test (count_in_range t) (λ e. h (count_tells t e))))
+  says_count h = simp h
 
-  module _ (c : CountFits t) where
-    pub says_setting : (SettingFits t → ⊥) → Err Is.Setting ≡ verdict t
+  module _ (c : count_in_range t ≡ true) where
+    pub says_setting : setting_in_range t ≡ false → Err Is.Setting ≡ verdict t
     unfolding verdict
-    says_setting h = simp (count-holds t c, sym (no_test (setting_in_range t) (λ e. h (setting_tells t e))))
+    says_setting h = simp (c, h)
 
-    module _ (s : SettingFits t) where
+    module _ (s : setting_in_range t ≡ true) where
       pub says_rest : verdict t ≡ first (faulty t) (fault_at t) (sums t) t.count
       unfolding verdict
-      says_rest = simp (count-holds t c, setting-holds t s)
+      says_rest = simp (c, s)
 
       -- the first fault
       pub says_fault : {e : Fault} → Err e ≡ first (faulty t) (fault_at t) passing t.count → Err e ≡ verdict t

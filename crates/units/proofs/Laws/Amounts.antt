@@ -1,5 +1,5 @@
 -- Laws of `given` and `up`: a faster tick gives more; Up covers the work, with the fewest ticks. Assumes nothing.
-use Rattle.std.proofs.Common.{◌≡◌, ℕ, zero, suc, ◌+◌, ◌-◌, ◌*◌, ◌/◌, ◌<◌, ◌≤◌, le_of_suc-le-suc, suc-mul, div-lt_iff_lt-mul, le-div_iff_mul-le, mul-suc, div-mul-le_self, le_antisymm, arith}
+use Rattle.std.proofs.Common.{◌≡◌, ℕ, zero, suc, ◌+◌, ◌-◌, ◌*◌, ◌/◌, ◌<◌, ◌≤◌, le_of_suc-le-suc, suc-mul, div-lt_iff_lt-mul, le-div_iff_mul-le, div-mul-le_self, le_antisymm, arith}
 use native.Mathlib.Nat.{div-zero, div-eq_of_lt, lt-div-mul-add}
 use native.Mathlib.Decide.{dec_le}
 use Rattle.std.proofs.Math.Nat.{lt_of_mul-lt-mul_right}
@@ -37,11 +37,6 @@ ceil_up a b p =
     let times = div_ceil_times a b p in
     let covers = up-covers a b p in
     le_antisymm (le_of_suc-le-suc (lt_of_mul-lt-mul_right b {m = div_ceil a b} {n = suc (up a b)} (omega (arith, times, suc-mul (up a b) b)))) (up_least a b (div_ceil a b) times.0)
-
--- a quotient by b is at most a, where the dividend is at most b - 1 above a
-pub quotient_le : (x a b : ℕ) → 0 < b → x ≤ a + (b - 1) → x / b ≤ a
-quotient_le x a zero p h = absurd (omega arith)
-quotient_le x a (suc b) p h = quotient_below x a (suc b) p (omega (arith, suc-mul a (suc b), mul-suc a b))
 
 -- more makes no smaller quotient
 pub quotient_more : (a b d : ℕ) → 1 ≤ d → a ≤ b → a / d ≤ b / d

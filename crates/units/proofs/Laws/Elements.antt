@@ -1,5 +1,7 @@
 -- What std gathers over the first elements of a list is what the folds gather over their positions. Assumes nothing.
-use Rattle.std.proofs.Common.{◌≡◌, ℕ, zero, suc, ◌+◌, ◌≤◌, max, Bool, true, false, cond, ◌||◌, ◌&&◌, List, take, length, get_or, sym, refl, ap, ◌∙◌, add-one, arith, fold, sum_by}
+use Rattle.std.proofs.Common.{◌≡◌, ℕ, zero, suc, ◌+◌, ◌≤◌, ◌<◌, max, Bool, true, false, cond, ◌||◌, ◌&&◌, List, take, length, get_or, sym, refl, ap, ◌∙◌, add-one, arith, fold, sum_by, subst, ⊎_elim, eq-or-lt_of_le}
+use denote.Param.Members.{Mut, Called}
+use Rattle.std.specs.Array.{IsFromFnResultFrom}
 use Rattle.std.specs.List.{list_any, list_all}
 use Rattle.std.proofs.lemmas.List.Folds.{list_any_more, list_all_more}
 use Rattle.std.proofs.lemmas.List.Sums.{fold_more, sum_by_more}
@@ -45,3 +47,14 @@ module _ {X : Type 0} (d : X) (xs : List X) where
   pub max_largest : (f : X → ℕ) (n : ℕ) → n ≤ length xs → fold (λ a x. max a (f x)) 0 (take n xs) ≡ largest (λ k. true) (λ k. f (get_or xs k d)) n
   unfolding largest
   max_largest f n l = fold_over (λ a x. max a (f x)) 0 n l
+
+-- `array::from_fn`: what holds of the closure before a call holds after it, and each call gives what is right at its index
+module _ {F B : Type 0} (g : Mut F (ℕ × Unit {0}) B) (S : F → Type 0) (R : ℕ → B → Type 0) (d : B) (step : (p q : F) (i : ℕ) (y : B) → S p → Called g p (i, tt) y q → S q × R i y) where
+  pub from_fn_at : (n i : ℕ) (f : F) (ys : List B) → S f → IsFromFnResultFrom g f ys i n → (k : ℕ) → i ≤ k → k < i + n → R k (get_or ys k d)
+  from_fn_at zero i f ys s h k l m = absurd (omega arith)
+  from_fn_at (suc n) i f ys s h k l m =
+      let now = step f h.0 i h.1 s h.3 in
+      ⊎_elim
+      (λ e. subst (λ k. R k (get_or ys k d)) e (subst (R i) (sym (h.2.1 d)) now.1))
+      (λ b. from_fn_at n (i + 1) h.0 ys now.0 h.4 k (omega arith) (omega arith))
+      (eq-or-lt_of_le l)

@@ -113,6 +113,15 @@ all_fails p n k l h = go (all p n) refl
     go true e = absurd (false≢true (sym h ∙ all_tells p n e k l))
     go false e = e
 
+-- a test that holds where each position has p, or where some position has it
+pub all_told : (p : ℕ → Bool) (n : ℕ) {b : Bool} → (b ≡ true → (k : ℕ) → k < n → p k ≡ true) → (((k : ℕ) → k < n → p k ≡ true) → b ≡ true) → b ≡ all p n
+all_told p n {b} f g = go b refl (all p n) refl
+  where
+    go : (c : Bool) → b ≡ c → (d : Bool) → all p n ≡ d → b ≡ all p n
+    go true e d h = e ∙ sym (all-holds p n (f e))
+    go false e true h = absurd (false≢true (sym e ∙ g (all_tells p n h)))
+    go false e false h = e ∙ sym h
+
 pub largest_bounds : (p : ℕ → Bool) (f : ℕ → ℕ) (n : ℕ) (k : ℕ) → k < n → p k ≡ true → f k ≤ largest p f n
 unfolding largest over
 largest_bounds p f zero k l h = absurd (not-suc-le-zero l)

@@ -1,5 +1,11 @@
 -- What a test that a function made says of its rule. Assumes nothing.
-use Rattle.std.proofs.Common.{◌≡◌, Bool, true, false, cond, not, ◌&&◌, ◌||◌, sym, refl, ap, ◌∙◌, ltb-true, le-ltb, lt-ltb, eq-eqb, ne_eqb, eqb-true, le-leb, leb-true}
+use Rattle.std.proofs.Common.{◌≡◌, ℕ, ◌≤◌, arith, ltb, leb, Bool, true, false, cond, not, ◌&&◌, ◌||◌, sym, refl, ap, ◌∙◌, ltb-true, le-ltb, lt-ltb, eq-eqb, ne_eqb, eqb-true, le-leb, leb-true}
+use mathlib.Core.Path.{ap₂}
+use Rattle.std.specs.Prelude.{Some}
+use Rattle.std.specs.declared.ops.RangeInclusive.{RangeInclusive}
+use Rattle.std.specs.Range.{range_inclusive_contains, range_inclusive_start, range_inclusive_end, range_inclusive_exhausted}
+use Rattle.std.specs.Ordering.{is_lt, is_le, nat_cmp}
+use Rattle.std.proofs.lemmas.Bool.Decides.{nat_tests}
 use mathlib.Core.Path.{◌∙⁻¹◌}
 use mathlib.Core.Bool.{false≢true}
 use borrow.Author.Tests.{not-true, not-false, lt-leb}
@@ -31,6 +37,20 @@ module _ {b : Bool} where
 
   pub not_no : b ≡ false → not b ≡ true
   not_no e = ap not e
+
+-- what the derived order of amounts tells
+pub order_lt : (a b : ℕ) → is_lt (nat_cmp a b) ≡ ltb a b
+order_lt a b = grind (arith, nat_tests)
+
+pub order_le : (a b : ℕ) → is_le (nat_cmp a b) ≡ leb a b
+order_le a b = grind (arith, nat_tests)
+
+module _ (a b : ℕ) {r v : Bool} where
+  pub told_lt : r ≡ is_lt (nat_cmp a b) → r ≡ v → ltb a b ≡ v
+  told_lt e h = sym (order_lt a b) ∙ sym e ∙ h
+
+  pub told_le : r ≡ is_le (nat_cmp a b) → r ≡ v → leb a b ≡ v
+  told_le e h = sym (order_le a b) ∙ sym e ∙ h
 
 -- the arm that a test chooses
 module _ {A : Type 0} (x y : A) {b : Bool} where
@@ -74,6 +94,25 @@ and_left false b h = h
 pub and_right : (a b : Bool) → (a && b) ≡ true → b ≡ true
 and_right true b h = h
 and_right false b h = absurd (false≢true h)
+
+-- the first of two pairs decides, or it passes on to the second
+pub and_pass : (r a b c : Bool) → a ≡ true → r ≡ (b && c) → r ≡ (a && b && c)
+and_pass r a b c h e = rw h e
+
+pub and_stop : (r a b c : Bool) → a ≡ false → r ≡ false → r ≡ (a && b && c)
+and_stop r a b c h e = rw h e
+
+-- `(a..=b).contains(&x)`
+module _ {A : Type 0} (f : A → ℕ) (a b x : A) {s : RangeInclusive A} {r : Bool} where
+  module _ (e : r ≡ range_inclusive_contains (λ x y. Some (nat_cmp (f x) (f y))) s x) (i : range_inclusive_start s ≡ a) (j : range_inclusive_end s ≡ b) (k : range_inclusive_exhausted s ≡ false) where
+    pub told_within : r ≡ (leb (f a) (f x) && leb (f x) (f b))
+    told_within = rw (i, j, k) at e ∙ ap₂ (λ (p q : Bool). p && q) (order_le (f a) (f x)) (order_le (f x) (f b))
+
+    pub told_inside : r ≡ true → (f a ≤ f x) × (f x ≤ f b)
+    told_inside h = let w = sym told_within ∙ h in (leb-true _ _ (and_left _ _ w), leb-true _ _ (and_right _ _ w))
+
+    pub told_outside : r ≡ false → f a ≤ f x → f x ≤ f b → ⊥
+    told_outside h l m = false≢true (sym h ∙ told_within ∙ and-true _ _ (le-leb _ _ l) (le-leb _ _ m))
 
 -- `search tests` at a return follows the rule, and finds what the tests on the way said wherever it stands in the record of the place.
 -- It also makes a rule of the plain facts of a record; `search parts` makes the record of the rule.

@@ -1,15 +1,31 @@
-use mathlib.Core.Path.{refl, ◌∙◌, ap}
-use native.Mathlib.Omega.{arith}
+use Rattle.std.proofs.Common.{ℕ, refl, ap, ◌∙◌, get_or, leb, arith}
+use Rattle.units.specs.declared.Steps.{Steps}
+use Rattle.units.specs.Amounts.{ticks, steps}
 use Rattle.units.specs.Folds.{largest, over}
-use Rattle.units.proofs.Laws.Folds.{largest-next}
+use Rattle.units.proofs.Laws.Tests.{told_le}
+use Rattle.units.proofs.Laws.Loops.{told_max, largest_taken, largest_passed}
+use Rattle.table.specs.Table.{limit}
 use Rattle.admission.proofs.blocking.longest_of.Goals as goal
+use Rattle.admission.proofs.blocking.longest_of.Goals.{then-le, else-le}
 
 pub loop-r-init : goal.loop-r-init
 unfolding largest over
 loop-r-init c = (omega arith, refl)
 
 pub loop-r-preserved : goal.loop-r-preserved
-loop-r-preserved c = (omega arith, search largest-next)
+loop-r-preserved c =
+    let l = c.loop-r in
+    let a = c.args in
+    let level = (get_or a.ceilings.now l.r (ticks 0)).0 in
+    let within = λ (k : ℕ). leb (get_or a.ceilings.now k (ticks 0)).0 a.deadline.0 in
+    let number = λ (s : Steps). s.0 in (
+      omega arith,
+      elim c.if-le.branch [
+        | then-le w ↦ largest_taken within (limit a.task.now) l.r (told_le level a.deadline.0 c.le.ensures w.if-le.true)
+            (ap number w.longest-is ∙ told_max number l.longest (get_or a.task.now.limits l.r (steps 0)) w.max-longest.ensures) l.invariant.1
+        | else-le w ↦ largest_passed within (limit a.task.now) l.r (told_le level a.deadline.0 c.le.ensures w.if-le.false) (ap number w.longest-is) l.invariant.1
+      ],
+    )
 
 pub returns : goal.returns
 returns c = c.loop-r.invariant.1 ∙ ap (largest _ _) (omega arith)

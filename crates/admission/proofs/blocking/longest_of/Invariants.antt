@@ -1,11 +1,8 @@
-use Prim.Native.Nat.{◌≤◌}
-use mathlib.Core.Path.{◌≡◌}
+use Rattle.std.proofs.Common.{◌≡◌, ◌≤◌, leb, get_or}
+use Rattle.units.specs.Amounts.{ticks}
 use Rattle.units.specs.Folds.{largest}
 use Rattle.table.specs.Table.{limit}
-use lib.Dec.{leb}
-use lib.ListN.{get_or}
-use Rattle.units.specs.Amounts.{ticks}
 use Rattle.admission.proofs.blocking.longest_of.Given as goal
 
 abbrev pub invariant-loop-r : goal.invariant-loop-r
-invariant-loop-r l = (l.r ≤ 8) × (l.found.0 ≡ largest (λ k. leb (get_or l.ceilings k (ticks 0)).0 l.deadline.0) (limit l.task) l.r)
+invariant-loop-r l = (l.r ≤ 8) × (l.longest.0 ≡ largest (λ k. leb (get_or l.ceilings k (ticks 0)).0 l.deadline.0) (limit l.task) l.r)

@@ -1,21 +1,11 @@
-use mathlib.Core.Path.{◌≡◌, refl, sym, ◌∙◌}
-use mathlib.Core.Bool.{false≢true}
-use native.Mathlib.Omega.{arith}
-use borrow.Author.Tests.{le-leb, lt-leb}
-use Rattle.units.specs.Folds.{all, over}
-use Rattle.units.proofs.Laws.Folds.{all-next, all_tells}
-use Rattle.admission.proofs.Laws.Ranges.{no_test}
+use Rattle.std.proofs.Common.{◌≤◌, ◌↔◌, rules, arith, le-leb, leb-true, slice_index_or}
+use Rattle.std.specs.Prelude.{EachIndex, IsTrue}
+use Rattle.units.specs.Amounts.{steps}
+use Rattle.units.proofs.Laws.Folds.{all_told}
 use Rattle.admission.proofs.ranges.limits_in_range.Goals as goal
 
-pub loop-r-init : goal.loop-r-init
-unfolding all over
-loop-r-init c = (omega arith, refl)
-
-pub returns-then-task-r : goal.returns-then-task-r
-returns-then-task-r c = no_test _ (λ h. false≢true (sym (lt-leb _ _ c.if-task-r.true) ∙ all_tells _ 8 h c.loop-r.r (omega arith)))
-
-pub loop-r-preserved : goal.loop-r-preserved
-loop-r-preserved c = let l = c.loop-r in (omega arith, sym (all-next _ l.r (sym l.invariant.1) (sym (le-leb _ _ c.if-task-r.false))))
-
 pub returns : goal.returns
-returns c = let e : c.loop-r.r ≡ 8 = omega arith in sym (rw e at c.loop-r.invariant.1)
+returns c =
+    let l = c.args.task.limits in
+    let e : IsTrue c.all.result ↔ EachIndex l (λ k. (slice_index_or l k (steps 0)).0 ≤ c.args.task.budget.0) = search rules in
+    all_told _ 8 (λ h k m. le-leb _ _ (e.0 h k (omega arith))) (λ h. e.1 (λ k m. leb-true _ _ (h k (omega arith))))

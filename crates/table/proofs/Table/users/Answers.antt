@@ -1,32 +1,31 @@
-use Prim.Native.Nat.{ℕ, ◌<◌}
-use mathlib.Core.Path.{◌≡◌}
-use mathlib.Core.Bool.{cond}
-use native.Mathlib.Omega.{arith}
-use lib.ListN.{get_or, get_or-replicate}
-use borrow.Author.Tests.{lt-ltb, le-ltb}
+use Rattle.std.proofs.Common.{◌≡◌, cond, refl, ap, ◌∙◌, arith, lt-ltb, le-ltb}
 use Rattle.units.specs.Folds.{over}
 use Rattle.units.specs.Sets.{set, with}
 use Rattle.units.proofs.Laws.Sets.{set_next}
-use Rattle.table.specs.Table.{takes, users}
+use Rattle.units.proofs.Laws.Tests.{told_lt}
+use Rattle.table.specs.Table.{task_at, limit, takes, users}
 use Rattle.table.proofs.Table.users.Goals as goal
-use Rattle.table.proofs.Table.users.Goals.{then-k-self, else-k-self}
+use Rattle.table.proofs.Table.users.Goals.{then-k-self+then-lt, else-k-self, else-k-self-via-then-k-self+else-lt, else-k-self-via-else-k-self}
 
 pub loop-k-init : goal.loop-k-init
 unfolding set over
-loop-k-init c = (omega arith, λ r m. get_or-replicate 8 r 0 0 m)
+loop-k-init c = (omega arith, refl)
 
 pub loop-k-preserved : goal.loop-k-preserved
 unfolding takes
 loop-k-preserved c =
     let l = c.loop-k in
-    let t = c.args.self in
-    let next : (r : ℕ) → r < 8 → get_or c.if-k-self.found r 0 ≡ cond (takes t r l.k) (with (get_or l.found r 0) l.k) (get_or l.found r 0)
+    let most = limit (task_at c.args.self.now l.k) c.args.resource in
+    let next : c.if-k-self.users ≡ cond (takes c.args.self.now c.args.resource l.k) (with l.users l.k) l.users
     = elim c.if-k-self.branch [
-      | then-k-self w ↦ λ r m. rw (w.found-is, lt-ltb _ _ w.if-k-self.true) (w.users_with-next.ensures r m)
-      | else-k-self w ↦ λ r m. rw (w.found-is, le-ltb _ _ w.if-k-self.false)
+      | then-k-self+then-lt w ↦ rw (w.users-is, lt-ltb _ _ w.if-k-self.true, told_lt 0 most w.lt.ensures w.if-lt.true) w.with-users.ensures
+      | else-k-self w ↦ elim w.else-k-self.branch [
+        | else-k-self-via-then-k-self+else-lt w' ↦ rw (w.users-is, lt-ltb _ _ w'.if-k-self.true, told_lt 0 most w'.lt.ensures w'.if-lt.false)
+        | else-k-self-via-else-k-self w' ↦ rw (w.users-is, le-ltb _ _ w'.if-k-self.false)
+      ]
     ] in
-    (omega arith, λ r m. set_next (takes t r) l.k (omega arith) (l.invariant.1 r m) (next r m))
+    (omega arith, set_next (takes c.args.self.now c.args.resource) l.k (omega arith) l.invariant.1 next)
 
 pub returns : goal.returns
 unfolding users
-returns c = λ r m. let e : c.loop-k.k ≡ 16 = omega arith in rw e at (c.loop-k.invariant.1 r m)
+returns c = c.loop-k.invariant.1 ∙ ap (set _) (omega arith)
