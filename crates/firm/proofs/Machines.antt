@@ -1,14 +1,21 @@
 -- A machine that keeps the contracts of our calls is the written one, and meets demands 2 and 3; one that meets demand 2 keeps them. Assumes nothing.
-use mathlib.Core.Path.{◌≡◌, refl, sym, fun_ext, subst}
+use mathlib.Core.Path.{◌≡◌, refl, sym, ◌∙◌, fun_ext, subst}
 use Rattle.table.specs.declared.Table.{Table}
 use Rattle.state.specs.{declared.State.State}
 use Rattle.promise.specs.History.{Machine, written, Call, release, choose, report, answered}
 use Rattle.promise.proofs.Promise.{promise}
+use Rattle.firm.proofs.Told.{release-told, choose-told, report-told}
 use Rattle.firm.specs.Machines.{Contracts, Numbers, Choices, States, Meets}
 
 -- ours: the functions that our contracts name
 pub ours : Contracts written
-ours = record { verdict = λ t. refl; fresh = λ t now. refl; release = λ t s p. refl; choose = λ t s. refl; report = λ t s said. refl }
+ours = record {
+  verdict = λ t. refl;
+  fresh = λ t now. refl;
+  release = λ t s p. let w = release-told s t p in (w.0, w.1, w.1);
+  choose = λ t s. let w = choose-told s t in (w.0, w.1, w.1);
+  report = λ t s said. let w = report-told s t said in (w.0, w.1, w.1);
+}
 
 pub written-meets : Meets written
 written-meets = record {
@@ -24,9 +31,9 @@ module _ (m : Machine) (c : Contracts m) where
   same = λ i. record {
     verdict = fun_ext (λ t. c.verdict t) i;
     fresh = fun_ext (λ t. fun_ext (λ now. c.fresh t now)) i;
-    release = fun_ext (λ t. fun_ext (λ s. fun_ext (λ p. c.release t s p))) i;
-    choose = fun_ext (λ t. fun_ext (λ s. c.choose t s)) i;
-    report = fun_ext (λ t. fun_ext (λ s. fun_ext (λ said. c.report t s said))) i;
+    release = fun_ext (λ t. fun_ext (λ s. fun_ext (λ p. let w = c.release t s p in sym w.2 ∙ w.1))) i;
+    choose = fun_ext (λ t. fun_ext (λ s. let w = c.choose t s in sym w.2 ∙ w.1)) i;
+    report = fun_ext (λ t. fun_ext (λ s. fun_ext (λ said. let w = c.report t s said in sym w.2 ∙ w.1))) i;
   }
 
   pub meets : Meets m
@@ -48,7 +55,7 @@ module _ (m : Machine) (n : Numbers m) (c : Choices m) (s : States m) where
   whole = record {
     verdict = n.verdict;
     fresh = λ t now i. record { verdict = n.fresh t now i; state = s.fresh t now i };
-    release = λ t x p. answer-is t x (release p);
-    choose = λ t x. answer-is t x choose;
-    report = λ t x said. answer-is t x (report said);
+    release = λ t x p. let w = release-told x t p in (w.0, w.1, w.1 ∙ sym (answer-is t x (release p)));
+    choose = λ t x. let w = choose-told x t in (w.0, w.1, w.1 ∙ sym (answer-is t x choose));
+    report = λ t x said. let w = report-told x t said in (w.0, w.1, w.1 ∙ sym (answer-is t x (report said)));
   }

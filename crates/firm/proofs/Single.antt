@@ -1,8 +1,11 @@
--- Each contract gives the result by an equation, and what it leaves in a lent slice by another. Assumes nothing.
+-- Each contract gives the result, or what it tells, by an equation, and what it leaves in a lent slice by another. Assumes nothing.
 use Prim.Native.Nat.{ℕ}
 use mathlib.Core.Path.{refl, sym, ap, ◌∙◌}
 use mathlib.Core.List.{List}
 use denote.Ref.{at_last}
+use Rattle.state.specs.State.{no_job}
+use Rattle.state.proofs.Laws.Answers.{success-same, told-same}
+use Rattle.seen.proofs.Laws.Told as AtReport
 use Rattle.firm.specs.Single.{Singleness}
 
 pub single : Singleness
@@ -22,7 +25,9 @@ single = record {
   number = λ κs a r s v w p q. (p ∙ sym q, refl);
   position = λ κs a r s v w p q. (p ∙ sym q, refl);
   fresh = λ κs a r s v w p q. (p ∙ sym q, refl);
-  bare = λ κs a r s v w p q. (p ∙ sym q, refl);
+  refusal_number = λ κs a r s v w p q. (p ∙ sym q, refl);
+  ending_number = λ κs a r s v w p q. (p ∙ sym q, refl);
+  bare = λ κs a r s v w p q. (success-same a.0 r s (p ∙ sym q), refl);
   any = λ κs a r s v w p q. (p ∙ sym q, refl);
   holds = λ κs a r s v w p q. (p ∙ sym q, refl);
   join = λ κs a r s v w p q. (p ∙ sym q, refl);
@@ -31,16 +36,16 @@ single = record {
   run_place = λ κs a r s v w p q. (p ∙ sym q, refl);
   rules = λ κs a r s v w p q. (p ∙ sym q, refl);
   inherited = λ κs a r s v w p q. (p ∙ sym q, refl);
-  reported = λ κs a r s v w p q. (p ∙ sym q, refl);
-  reported_idle = λ κs a r s v w p q. (p ∙ sym q, refl);
+  reported = λ κs a r s v w p q. (AtReport.told-same (a.1.0) r s (p ∙ sym q), refl);
+  reported_idle = λ κs a r s v w p q. (AtReport.told-same no_job r s (p ∙ sym q), refl);
   runner_position = λ κs a r s v w p q. (p ∙ sym q, refl);
   in_mid_tick = λ κs a r s v w p q. (p ∙ sym q, refl);
   closed = λ κs a r s v w p q. (p ∙ sym q, refl);
   late = λ κs a r s v w p q. (p ∙ sym q, refl);
   examine = λ κs a r s v w p q. (p ∙ sym q, refl);
-  release = λ κs a r s v w p q. (p ∙ sym q, refl);
-  choose = λ κs a r s v w p q. (p ∙ sym q, refl);
-  report = λ κs a r s v w p q. (p ∙ sym q, refl);
+  release = λ κs a r s v w p q. (told-same (a.1.0) r s (p ∙ sym q), refl);
+  choose = λ κs a r s v w p q. (told-same (a.1.0) r s (p ∙ sym q), refl);
+  report = λ κs a r s v w p q. (told-same (a.1.0) r s (p ∙ sym q), refl);
   first_event = λ κs a r s v w p q. (p ∙ sym q, refl);
   event_count = λ κs a r s v w p q. (p ∙ sym q, refl);
   well_formed = λ κs a r s v w p q. (p ∙ sym q, refl);

@@ -1,21 +1,25 @@
 -- What is asked of a machine, whatever functions it is made of: the promises of our calls, and the same part by part, as document 01 names the parts.
-use Rattle.std.specs.Prelude.{ℕ, ◌≡◌}
+use Rattle.std.specs.Prelude.{ℕ, ◌≡◌, Result}
 use Rattle.units.specs.declared.Tick.{Tick}
 use Rattle.table.specs.declared.Table.{Table}
-use Rattle.state.specs.{declared.State.State, declared.Report.Report}
+use Rattle.state.specs.{declared.State.State, declared.Report.Report, declared.Success.Success, declared.Refusal.Refusal, Answers.Answer, Answers.told}
 use Rattle.admission.proofs as Admission
 use Rattle.state.proofs as State
 use Rattle.machine.proofs as Calls
 use Rattle.promise.specs.History.{Machine, written, Call, answered}
 use Rattle.promise.specs.Promise.{Promise}
 
+-- Some result of the code's type is what a function's contract allows, and tells the answer.
+abbrev pub Tells : State → (Result Success Refusal → Type 0) → Answer → Type 0
+Tells s Allowed a = (r : Result Success Refusal) × Allowed r × (told s r ≡ a)
+
 -- The contracts of the code, of a machine's functions in place of it.
 pub record Contracts (m : Machine) : Type 0 where
   pub verdict : (t : Table) → Admission.verdict_of.Reads.Learnt tt (t, tt) (m.verdict t) (t, tt)
   pub fresh : (t : Table) (now : Tick) → State.State.fresh.Reads.Learnt tt (t, (now, tt)) (m.fresh t now) (t, (now, tt))
-  pub release : (t : Table) (s : State) (p : ℕ) → Calls.release.Reads.Learnt tt (t, (s, (p, tt))) (m.release t s p) (t, (s, (p, tt)))
-  pub choose : (t : Table) (s : State) → Calls.choose.Reads.Learnt tt (t, (s, tt)) (m.choose t s) (t, (s, tt))
-  pub report : (t : Table) (s : State) (said : Report) → Calls.report.Reads.Learnt tt (t, (s, (said, tt))) (m.report t s said) (t, (s, (said, tt)))
+  pub release : (t : Table) (s : State) (p : ℕ) → Tells s (λ r. Calls.release.Reads.Learnt tt (t, (s, (p, tt))) r (t, (s, (p, tt)))) (m.release t s p)
+  pub choose : (t : Table) (s : State) → Tells s (λ r. Calls.choose.Reads.Learnt tt (t, (s, tt)) r (t, (s, tt))) (m.choose t s)
+  pub report : (t : Table) (s : State) (said : Report) → Tells s (λ r. Calls.report.Reads.Learnt tt (t, (s, (said, tt))) r (t, (s, (said, tt)))) (m.report t s said)
 
 -- "demand 2, by the table of numbers"
 pub record Numbers (m : Machine) : Type 0 where

@@ -45,7 +45,9 @@ pub record Singleness : Type 0 where
   pub number : Single Verdict.specs.contracts.number.ended Verdict.proofs.number.Reads.Learnt
   pub position : Single Verdict.specs.contracts.position.ended Verdict.proofs.position.Reads.Learnt
   pub fresh : Single State.specs.contracts.State.fresh.ended State.proofs.State.fresh.Reads.Learnt
-  pub bare : Single State.specs.contracts.Answer.bare.ended State.proofs.Answer.bare.Reads.Learnt
+  pub refusal_number : Single State.specs.contracts.Refusal.number.ended State.proofs.Refusal.number.Reads.Learnt
+  pub ending_number : Single State.specs.contracts.Ending.number.ended State.proofs.Ending.number.Reads.Learnt
+  pub bare : Single State.specs.contracts.Success.bare.ended State.proofs.Success.bare.Reads.Learnt
   pub any : Single State.specs.contracts.Stack.any.ended State.proofs.Stack.any.Reads.Learnt
   pub holds : Single State.specs.contracts.Stack.holds.ended State.proofs.Stack.holds.Reads.Learnt
   pub join : Single State.specs.contracts.Stack.join.ended State.proofs.Stack.join.Reads.Learnt
