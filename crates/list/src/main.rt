@@ -7,6 +7,7 @@ use std::env::FillError;
 use std::io::{Read, Write};
 use std::rt::{Env, Files};
 use std::{fs, io};
+use verdict::Fault;
 
 // The system's numbers for an argument that there is not, and for one that is too long.
 const INVALID: i32 = 22;
@@ -46,10 +47,14 @@ fn fail(rt: &impl Eprint, what: &str, error: io::Error) {
 
 // Names the task that a table's number is about, on standard error, since the listing has the number alone.
 fn name_position(rt: &impl Eprint, file: &[u8]) {
-    let verdict = admission::verdict_of(records::table(file));
-    let names_a_task = matches!(verdict::number(verdict), 4 | 5 | 6 | 8);
-    if names_a_task && records::well_formed(file) {
-        let position = verdict::position(verdict);
+    if let Err(
+        Fault::Range(position)
+        | Fault::Divisor(position)
+        | Fault::Order(position)
+        | Fault::Synchronization(position),
+    ) = admission::verdict_of(records::table(file))
+        && records::well_formed(file)
+    {
         let _ = eprintln!(rt; "list: the number is that of position {position}, counted from 0");
     }
 }

@@ -72,10 +72,6 @@ impl fmt::Display for Choice {
     }
 }
 
-fn is_free(section: &Section) -> bool {
-    section.resource == 0 && section.steps.0 == 0
-}
-
 // The outermost section, if there is one.
 #[derive(Clone, Copy)]
 struct HeldText<'a>(&'a Stack);
@@ -120,7 +116,7 @@ impl JobText<'_> {
         let JobText { position, job } = self;
         let told = usize::from(job.held.depth != 0);
         for (place, section) in job.held.sections.iter().enumerate().skip(told) {
-            if !is_free(section) {
+            if *section != Section::NONE {
                 let Section { resource, steps } = section;
                 write!(f, ", section {position} {place} {resource} {}", steps.0)?;
             }
@@ -135,12 +131,6 @@ impl fmt::Display for JobText<'_> {
         self.write_depth(f)?;
         self.write_sections(f)
     }
-}
-
-fn is_empty(job: &Job) -> bool {
-    let is_idle = !job.pending && !job.started && job.wait.0 == 0;
-    let has_no_work = job.deadline.0 == 0 && job.used.0 == 0;
-    is_idle && has_no_work && job.held.depth == 0 && job.held.sections.iter().all(is_free)
 }
 
 // The whole state, but for the jobs that are all 0.
@@ -158,7 +148,7 @@ impl fmt::Display for StateText<'_> {
         let mark = OrDash(state.mark.map(PlaceText));
         write!(f, "state {} {half} {runner} {mark}", state.tick.0)?;
         for (position, job) in state.jobs.iter().enumerate() {
-            if !is_empty(job) {
+            if *job != Job::NONE {
                 write!(f, "{}", JobText { position, job })?;
             }
         }

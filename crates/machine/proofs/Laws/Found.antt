@@ -1,15 +1,13 @@
 -- What a call answers, by what its calls gave: the verdict of the table, then the examination of the state. Assumes nothing.
-use Rattle.std.specs.Prelude.{Option, Some, None, Err, ok_or}
+use Rattle.std.specs.Prelude.{Option, Some}
 use Prim.Native.Nat.{ℕ, ◌^◌, ◌≤◌, ◌<◌}
-use mathlib.Core.Path.{◌≡◌, refl, sym, ap, ap₂, ◌∙◌}
+use mathlib.Core.Path.{◌≡◌, sym, ap, ap₂, ◌∙◌}
 use mathlib.Core.Bool.{Bool, true, false, not}
 use native.Mathlib.Omega.{arith}
 use lib.ListN.{length, set}
 use borrow.Author.Tests.{eq-eqb, ne_eqb}
 use Rattle.units.proofs.Laws.Tests.{failed, cond_yes, cond_no}
-use Rattle.verdict.specs.declared.Fault.{Fault}
 use Rattle.verdict.specs.Verdict.{Verdict, passing, answer}
-use Rattle.verdict.proofs.Laws.{fault_counts}
 use Rattle.table.specs.declared.Task.{Task}
 use Rattle.table.specs.declared.Table.{Table}
 use Rattle.table.specs.Table.{task_at}
@@ -17,7 +15,6 @@ use Rattle.admission.specs.Admission.{verdict}
 use Rattle.admission.proofs.Laws.Admitted.{admitted}
 use Rattle.state.specs.declared.Job.{Job}
 use Rattle.state.specs.declared.State.{State}
-use Rattle.state.specs.declared.Refusal.{Refusal}
 use Rattle.state.specs.declared.Report.{Report}
 use Rattle.state.specs.State.{job_at}
 use Rattle.state.specs.Order.{held_resources}
@@ -28,30 +25,14 @@ use Rattle.report.proofs.Laws.Answers.{taken-answer}
 use Rattle.consistency.specs.Consistency.{consistent}
 use Rattle.seen.specs.declared.Examined.{Examined}
 use Rattle.seen.specs.Seen.{due, examined, Reported, runner_position, reported_by, late_by}
-use Rattle.seen.proofs.Laws.Examined.{bad_table, unfit, fit, runner-there, handed_back}
+use Rattle.seen.proofs.Laws.Examined.{fit, runner-there, handed_back}
 use Rattle.seen.proofs.Laws.Reports.{answered, report-by}
 use Rattle.machine.specs.Machine.{mid_tick, released, release, chosen, choose, report}
 use Rattle.machine.proofs.Laws.Calls.{report_11, release_12, release-taken, choose_makes, report-runs}
 
--- a table with a fault, and one without: of the latter a position is below 16
-module _ (t : Table) where
-  pub faulty : (s : State) {f : Fault} → Err f ≡ verdict t → consistent t s ≡ false
-  faulty s {f} e = bad_table t s e refl (fault_counts f)
-
-  -- a state of which nothing is found, and the refusal that it is
-  pub found_none : (s : State) {x : Option Examined} {q r : Refusal} → x ≡ examined t s → Err r ≡ ok_or x q → (r ≡ q) × (consistent t s ≡ false)
-  found_none s {x} {q} {r} e h = let p = none x h in (p.1, unfit t s e p.0)
-    where
-      none : (x : Option Examined) → Err r ≡ ok_or x q → (x ≡ None) × (r ≡ q)
-      none None h = (refl, cc)
-      none (Some y) h = (cc, cc)
-
-  module _ (e : passing ≡ verdict t) where
-    pub found_fit : (s : State) {x : Option Examined} → x ≡ examined t s → {found : Examined} → x ≡ Some found → consistent t s ≡ true
-    found_fit s f h = fit t s f h e refl refl
-
-    pub found_place : {p : ℕ} → p < t.count → p < 16
-    found_place l = let few = (admitted t (ap (λ (v : Verdict). (answer v).0) (sym e))).count.high in omega arith
+-- a position in a table that passes is below 16
+pub found_place : (t : Table) → passing ≡ verdict t → {p : ℕ} → p < t.count → p < 16
+found_place t e l = let few = (admitted t (ap (λ (v : Verdict). (answer v).0) (sym e))).count.high in omega arith
 
 -- a release, with the job and the task at its position found
 module _ (t : Table) (s : State) (p : ℕ) (good : consistent t s ≡ true) (between : mid_tick s.half ≡ false) (there : p < t.count) {j : Job} (e : j ≡ job_at s p) where
@@ -63,16 +44,19 @@ module _ (t : Table) (s : State) (p : ℕ) (good : consistent t s ≡ true) (bet
   found_free l h i = release-taken t s good between p there (rw (← e) l) ∙ rw (h, i)
 
 -- what each call gave, and what each test said of it, up to whether the state is in mid-tick
-module _ (t : Table) (s : State) {x : Option Examined} {found : Examined} {h : Bool} (a : passing ≡ verdict t) (e : x ≡ examined t s) (f : x ≡ Some found) (g : h ≡ mid_tick s.half) where
+module _ (t : Table) (s : State) {x : Option Examined} {y : Examined} {h : Bool} (a : passing ≡ verdict t) (e : x ≡ examined t s) (f : x ≡ Some y) (g : h ≡ mid_tick s.half) where
   pub found_waiting : (p : ℕ) → h ≡ false → p < t.count → 0 < (job_at s p).wait.0 → release t s p ≡ bare 12 s
-  found_waiting p m l w = release_12 t s (found_fit t a s e f) (sym g ∙ m) p l w
+  found_waiting p m l w = release_12 t s (fit t s e f a) (sym g ∙ m) p l w
 
   pub found_between : (said : Report) → not h ≡ true → report t s said ≡ bare 11 s
-  found_between said m = report_11 t s (found_fit t a s e f) said (failed g m)
+  found_between said m = report_11 t s (fit t s e f a) said (failed g m)
 
 -- a choice and a report, with what the examination handed back
-module _ (t : Table) (s : State) {x : Option Examined} (e : x ≡ examined t s) {found : Examined} (fits : x ≡ Some found) where
-  is_whole : found ≡ record { turn = turn t s; held = held_resources s; due = due s }
+module _ (t : Table) (s : State) {x : Option Examined} {found : Examined} (e : x ≡ examined t s) (fits : x ≡ Some found) where
+  abbrev whole : Examined
+  whole = record { turn = turn t s; held = held_resources s; due = due s }
+
+  is_whole : found ≡ whole
   is_whole = handed_back t s e fits
 
   pub found_choice : (next : State) → next ≡ in_mid_tick s found.turn → consistent t s ≡ true → mid_tick s.half ≡ false → chosen (record { state = next; turn = found.turn }) ≡ choose t s

@@ -2,8 +2,9 @@ use native.Mathlib.Omega.{arith}
 use mathlib.Core.Path.{sym, ◌∙◌}
 use borrow.Author.Rules.{rules}
 use Rattle.units.proofs.Laws.Tests.{told, tested}
+use Rattle.seen.proofs.Laws.Examined.{faulty, unfit, fit}
 use Rattle.machine.proofs.Laws.Calls.{release_9, release_11, release_10}
-use Rattle.machine.proofs.Laws.Found.{faulty, found_none, found_fit, found_place, found_free}
+use Rattle.machine.proofs.Laws.Found.{found_place, found_free}
 use Rattle.machine.proofs.release.Goals as goal
 
 pub returns-in_err-verdict_of : goal.returns-in_err-verdict_of
@@ -11,17 +12,17 @@ returns-in_err-verdict_of c = search (rules, told, release_9, faulty)
 
 pub returns-in_err-ok_or : goal.returns-in_err-ok_or
 returns-in_err-ok_or c =
-    let none = found_none _ _ c.examine.ensures c.in_err-ok_or.ensures.value in
-    search (rules, told, release_9, none)
+    let bad = unfit _ _ c.examine.ensures c.in_err-ok_or.ensures.ok_part in
+    search (rules, told, release_9)
 
 pub returns-then-mid_tick : goal.returns-then-mid_tick
 returns-then-mid_tick c =
-    let good = found_fit _ c.in_ok-verdict_of.ensures _ c.examine.ensures c.in_ok-ok_or.ensures.ok_part in
+    let good = fit _ _ c.examine.ensures c.in_ok-ok_or.ensures.ok_part c.in_ok-verdict_of.ensures in
     search (told, release_11)
 
 pub returns-then-table-position : goal.returns-then-table-position
 returns-then-table-position c =
-    let good = found_fit _ c.in_ok-verdict_of.ensures _ c.examine.ensures c.in_ok-ok_or.ensures.ok_part in
+    let good = fit _ _ c.examine.ensures c.in_ok-ok_or.ensures.ok_part c.in_ok-verdict_of.ensures in
     search (told, release_10)
 
 pub job_at-job-requires : goal.job_at-job-requires
@@ -35,7 +36,7 @@ with_job-requires c = found_place _ c.in_ok-verdict_of.ensures c.if-table-positi
 
 pub returns : goal.returns
 returns c =
-    let good = found_fit _ c.in_ok-verdict_of.ensures _ c.examine.ensures c.in_ok-ok_or.ensures.ok_part in
+    let good = fit _ _ c.examine.ensures c.in_ok-ok_or.ensures.ok_part c.in_ok-verdict_of.ensures in
     let between = tested c.mid_tick.ensures c.if-mid_tick.false in
     let next = found_free _ _ _ good between c.if-table-position.false c.job_at-job.ensures (omega arith) c.released-next.ensures c.task_at-task.ensures in
     c.bare.ensures ∙ rw c.with_job.ensures (sym next)

@@ -6,8 +6,9 @@ use lib.ListN.{length}
 use Rattle.units.proofs.Laws.Tests.{told, tests}
 use Rattle.units.proofs.Laws.Folds.{long}
 use Rattle.state.proofs.Laws.Answers.{refusal_some}
+use Rattle.seen.proofs.Laws.Examined.{faulty, unfit, fit}
 use Rattle.machine.proofs.Laws.Calls.{report_9}
-use Rattle.machine.proofs.Laws.Found.{faulty, found_none, found_fit, found_below, found_number, found_late, found_closed}
+use Rattle.machine.proofs.Laws.Found.{found_below, found_number, found_late, found_closed}
 use borrow.Author.Rules.{rules}
 use Rattle.machine.proofs.report.Goals as goal
 
@@ -16,15 +17,15 @@ returns-in_err-verdict_of c = search (rules, told, report_9, faulty)
 
 pub returns-in_err-found : goal.returns-in_err-found
 returns-in_err-found c =
-    let none = found_none _ _ c.examine.ensures c.in_err-found.ensures.value in
-    search (rules, told, report_9, none)
+    let bad = unfit _ _ c.examine.ensures c.in_err-found.ensures.ok_part in
+    search (rules, told, report_9)
 
 pub reported-requires : goal.reported-requires
 reported-requires c = found_below _ _ c.examine.ensures c.in_ok-found.ensures.ok_part
 
 pub returns-in_err-after : goal.returns-in_err-after
 returns-in_err-after c =
-    let good = found_fit _ c.in_ok-verdict_of.ensures _ c.examine.ensures c.in_ok-found.ensures.ok_part in
+    let good = fit _ _ c.examine.ensures c.in_ok-found.ensures.ok_part c.in_ok-verdict_of.ensures in
     let middle : mid_tick c.args.state.half ≡ true = search tests in
     let long : length c.args.state.jobs ≡ 16 = search (rules, long) in
     let ranged : c.args.state.tick.0 < 2 ^ 32 = search rules in
@@ -33,7 +34,7 @@ returns-in_err-after c =
 
 pub returns-then-late : goal.returns-then-late
 returns-then-late c =
-    let good = found_fit _ c.in_ok-verdict_of.ensures _ c.examine.ensures c.in_ok-found.ensures.ok_part in
+    let good = fit _ _ c.examine.ensures c.in_ok-found.ensures.ok_part c.in_ok-verdict_of.ensures in
     let middle : mid_tick c.args.state.half ≡ true = search tests in
     let long : length c.args.state.jobs ≡ 16 = search (rules, long) in
     let ranged : c.args.state.tick.0 < 2 ^ 32 = search rules in
@@ -41,7 +42,7 @@ returns-then-late c =
 
 pub returns : goal.returns
 returns c =
-    let good = found_fit _ c.in_ok-verdict_of.ensures _ c.examine.ensures c.in_ok-found.ensures.ok_part in
+    let good = fit _ _ c.examine.ensures c.in_ok-found.ensures.ok_part c.in_ok-verdict_of.ensures in
     let middle : mid_tick c.args.state.half ≡ true = search tests in
     let long : length c.args.state.jobs ≡ 16 = search (rules, long) in
     let ranged : c.args.state.tick.0 < 2 ^ 32 = search rules in

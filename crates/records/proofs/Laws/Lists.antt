@@ -1,5 +1,5 @@
 -- The records as a list, and what is gathered over it. Assumes nothing.
-use Rattle.std.proofs.Common.{◌≡◌, ℕ, zero, suc, ◌+◌, ◌-◌, ◌*◌, ◌<◌, ◌≤◌, Bool, true, false, cond, not, ◌&&◌, List, [], ◌∷◌, length, take, drop, get_or, sym, refl, ap, ◌∙◌, arith, Option, Some, None, ⊎_elim, ltb, lt-ltb, le-ltb, length-drop, length-take-le}
+use Rattle.std.proofs.Common.{◌≡◌, ℕ, zero, suc, ◌+◌, ◌-◌, ◌*◌, ◌<◌, ◌≤◌, Bool, true, cond, not, ◌&&◌, List, [], ◌∷◌, length, take, drop, get_or, sym, refl, ap, ◌∙◌, add-one, arith, Option, Some, None, ⊎_elim, ltb, lt-ltb, le-ltb, length-drop, length-take-le}
 use native.Mathlib.Decide.{dec_lt}
 use lib.ListN.{get_or-eq_default}
 use denote.Param.Members.{Mut}
@@ -12,6 +12,7 @@ use Rattle.std.specs.Fn.{Called}
 use Rattle.std.specs.List.{list_all, prefix_len, range_with_len}
 use Rattle.std.specs.Simd.{first_chunks}
 use Rattle.std.proofs.lemmas.List.{drop-drop, get_or-drop, get_or-take}
+use Rattle.std.proofs.lemmas.List.Folds.{list_all_more}
 use Rattle.std.proofs.lemmas.List.FromFn.{length-range_with_len, get_or-range_with_len}
 use Rattle.std.proofs.lemmas.List.Sums.{prefix_len-le-length, prefix_len_passes, prefix_len_stops}
 use Rattle.units.specs.Folds.{over, all, listed}
@@ -20,24 +21,18 @@ use Rattle.records.specs.Bytes.{record_count, record_at}
 use Rattle.records.specs.Records.{is_task, is_event, task_count}
 use Rattle.records.specs.Contents.{task_record}
 
-and_between : (a b c : Bool) → ((a && b) && c) ≡ (a && (b && c))
-and_between true b c = refl
-and_between false b c = refl
-
-all_front : (p : ℕ → Bool) (n : ℕ) → all p (suc n) ≡ (p 0 && all (λ k. p (suc k)) n)
-unfolding all over
-all_front p zero = go (p 0)
-  where
-    go : (b : Bool) → (true && b) ≡ (b && true)
-    go true = refl
-    go false = refl
-all_front p (suc n) = ap (λ (b : Bool). b && p (suc n)) (all_front p n) ∙ and_between (p 0) (all (λ k. p (suc k)) n) (p (suc n))
-
 -- each of a list has p
-pub all_of : {A : Type 0} (p : A → Bool) (xs : List A) (d : A) → list_all p xs ≡ all (λ k. p (get_or xs k d)) (length xs)
-unfolding all over
-all_of p [] d = refl
-all_of p (x ∷ xs) d = ap (λ (b : Bool). p x && b) (all_of p xs d) ∙ sym (all_front (λ k. p (get_or (x ∷ xs) k d)) (length xs))
+module _ {A : Type 0} (p : A → Bool) (xs : List A) (d : A) where
+  all_below : (n : ℕ) → n ≤ length xs → list_all p (take n xs) ≡ all (λ k. p (get_or xs k d)) n
+  unfolding all over
+  all_below zero h = refl
+  all_below (suc n) h =
+      ap (λ (k : ℕ). list_all p (take k xs)) (sym (add-one n))
+      ∙ list_all_more p xs n d (omega arith)
+      ∙ ap (λ (b : Bool). b && p (get_or xs n d)) (all_below n (omega arith))
+
+  pub all_of : list_all p xs ≡ all (λ k. p (get_or xs k d)) (length xs)
+  all_of = ap (list_all p) (sym (take_all (length xs) xs (omega arith))) ∙ all_below (length xs) (omega arith)
 
 pub all_between : (p : ℕ → Bool) (a n : ℕ) → list_all p (range_with_len a n) ≡ all (λ k. p (a + k)) n
 unfolding all

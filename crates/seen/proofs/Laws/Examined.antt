@@ -1,12 +1,14 @@
 -- A consistent state, by what the test of it hands back. Assumes nothing.
-use Rattle.std.specs.Prelude.{Option, Some, None}
+use Rattle.std.specs.Prelude.{Option, Some, None, Err}
 use Prim.Native.Nat.{ℕ, ◌^◌, ◌<◌}
 use mathlib.Core.Path.{◌≡◌, refl, sym, ap, ◌∙◌}
 use mathlib.Core.Bool.{Bool, true, false, ◌&&◌, and-false}
 use lib.ListN.{length}
-use borrow.Author.Tests.{eq-eqb, ne_eqb}
+use borrow.Author.Tests.{ne_eqb}
 use Rattle.units.proofs.Laws.Tests.{and-true}
-use Rattle.verdict.specs.Verdict.{Verdict, answer}
+use Rattle.verdict.specs.declared.Fault.{Fault}
+use Rattle.verdict.specs.Verdict.{passing}
+use Rattle.verdict.proofs.Laws.{fault_counts}
 use Rattle.table.specs.declared.Table.{Table}
 use Rattle.admission.specs.Admission.{verdict}
 use Rattle.state.specs.declared.State.{State}
@@ -61,21 +63,17 @@ module _ (t : Table) (s : State) where
       go true h = let z : Some y ≡ Some whole = e ∙ examined-fits h in (h, cc)
       go false h = let z : Some y ≡ None = e ∙ examined_unfit h in (cc, cc)
 
-  -- the number of the verdict, and then what the test handed back
-  module _ {v : Verdict} {n : ℕ} (e : v ≡ verdict t) (f : n ≡ (answer v).0) where
-    pub bad_table : (n ≡ 0 → ⊥) → consistent t s ≡ false
-    bad_table h = consistent-is ∙ ap (λ (b : Bool). b && fits t s) (found_passes t e f (ne_eqb n 0 h))
-
-    good_table : n ≡ 0 → passes t ≡ true
-    good_table h = found_passes t e f (eq-eqb n 0 h)
+  -- a table with a fault, and then what the test of the state hands back
+  pub faulty : {f : Fault} → Err f ≡ verdict t → consistent t s ≡ false
+  faulty {f} e = consistent-is ∙ ap (λ (b : Bool). b && fits t s) (found_passes t e refl (ne_eqb _ 0 (fault_counts f)))
 
   module _ {x : Option Examined} (e : x ≡ examined t s) where
     pub unfit : x ≡ None → consistent t s ≡ false
     unfit h = consistent-is ∙ ap (λ (b : Bool). passes t && b) (none-unfit (sym h ∙ e)) ∙ and-false (passes t)
 
     module _ {y : Examined} (h : x ≡ Some y) where
-      pub fit : {v : Verdict} {n : ℕ} → v ≡ verdict t → n ≡ (answer v).0 → n ≡ 0 → consistent t s ≡ true
-      fit a b z = consistent-is ∙ and-true _ _ (good_table a b z) (some-fits (sym h ∙ e)).0
+      pub fit : passing ≡ verdict t → consistent t s ≡ true
+      fit a = consistent-is ∙ and-true _ _ (found_passes t a refl refl) (some-fits (sym h ∙ e)).0
 
       pub handed_back : y ≡ whole
       handed_back = (some-fits (sym h ∙ e)).1
