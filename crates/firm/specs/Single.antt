@@ -48,6 +48,7 @@ pub record Singleness : Type 0 where
   pub refusal_number : Single State.specs.contracts.Refusal.number.ended State.proofs.Refusal.number.Reads.Learnt
   pub ending_number : Single State.specs.contracts.Ending.number.ended State.proofs.Ending.number.Reads.Learnt
   pub bare : Single State.specs.contracts.Success.bare.ended State.proofs.Success.bare.Reads.Learnt
+  pub in_use : Single State.specs.contracts.Stack.in_use.ended State.proofs.Stack.in_use.Reads.Learnt
   pub any : Single State.specs.contracts.Stack.any.ended State.proofs.Stack.any.Reads.Learnt
   pub holds : Single State.specs.contracts.Stack.holds.ended State.proofs.Stack.holds.Reads.Learnt
   pub join : Single State.specs.contracts.Stack.join.ended State.proofs.Stack.join.Reads.Learnt
