@@ -1,8 +1,8 @@
 // What consistency asks of each job, and of the resources that they hold.
-ghost use Rattle.std.specs.Prelude.{◌-◌, ◌<◌, ◌≡◌, ◌&&◌, ◌||◌, ltb, eqb, length};
-ghost use Rattle.units.specs.Folds.{some};
-ghost use Rattle.state.specs.Stack.{section_at};
-ghost use Rattle.consistency.specs.Consistency.{not_pending_fits, pending_fits, started_fits, section_fits, held_fits, is_taken, is_none, stack_fits, job_fits, unused};
+ghost use Rattle.std.specs.Prelude.{◌-◌, ◌≡◌, ◌&&◌, not, ltb, eqb, length};
+ghost use Rattle.std.specs.List.{list_any};
+ghost use Rattle.table.specs.Table.{limit};
+ghost use Rattle.consistency.specs.Consistency.{not_pending_fits, pending_fits, started_fits, held_fits, is_taken, stack_fits, job_fits, unused};
 
 use state::{Job, Section, Stack};
 use table::Task;
@@ -43,39 +43,22 @@ fn started_fits(job: Job) -> bool
     job.started || (job.used.0 == 0 && !held.any())
 }
 
-// The resource at a place is at a place below it too.
-fn repeats(held: Stack, i: usize) -> bool
-    requires { i < 4 }
-    ensures { result ≡ some (λ m. eqb (section_at held m).resource (section_at held i).resource) i }
+// Of a section that a job is in: no section below it is of its resource.
+fn section_fits(task: Task, below: &[Section], section: Section) -> bool
+    ensures { result ≡ ltb 0 (limit task section.resource) && (ltb section.steps.0 (limit task section.resource) && not (list_any (λ x. eqb x.resource section.resource) below.now)) }
 {
-    let section = held.sections[i];
-    for m in 0..i {
-        let below = held.sections[m];
-        if below.resource == section.resource {
-            return true;
-        }
-    }
-    false
-}
-
-// Of a place that is in use.
-fn section_fits(task: Task, held: Stack, i: usize) -> bool
-    requires { i < 4 }
-    ensures { result ≡ section_fits task held i }
-{
-    let section = held.sections[i];
     let limit = task.limit(section.resource);
-    0 < limit.0 && (section.steps.0 < limit.0 && !repeats(held, i))
+    0 < limit.0
+        && (section.steps.0 < limit.0
+            && !below.iter().any(|other| other.resource == section.resource))
 }
 
 fn held_fits(task: Task, held: Stack) -> bool
     ensures { result ≡ held_fits task held }
 {
-    for i in 0..Stack::PLACES {
-        if (held.depth as usize) <= i {
-            return true;
-        }
-        if !section_fits(task, held, i) {
+    let sections = held.in_use();
+    for (i, section) in sections.iter().enumerate() {
+        if !section_fits(task, &sections[..i], *section) {
             return false;
         }
     }
@@ -101,26 +84,17 @@ fn job_fits(task: Task, now: Tick, job: Job) -> bool
     pending_fits(task, now, job)
 }
 
-// The place is in use, or is 0.
-fn place_fits(i: usize, depth: u8, section: Section) -> bool
-    ensures { result ≡ ltb i depth || is_none section }
-{
-    i < (depth as usize) || (section.resource == 0 && section.steps.0 == 0)
-}
-
+// What is not in use is 0.
 fn stack_fits(held: Stack) -> bool
     ensures { result ≡ stack_fits held }
 {
-    if Stack::PLACES < (held.depth as usize) {
+    let depth = held.depth as usize;
+    if Stack::PLACES < depth {
         return false;
     }
-    for i in 0..Stack::PLACES {
-        let section = held.sections[i];
-        if !place_fits(i, held.depth, section) {
-            return false;
-        }
-    }
-    true
+    held.sections[depth..]
+        .iter()
+        .all(|section| section.resource == 0 && section.steps.0 == 0)
 }
 
 fn is_unused(job: Job) -> bool
@@ -155,14 +129,7 @@ pub(crate) fn fits(task: Task, now: Tick, job: Job) -> bool
 pub(crate) fn is_taken(set: u16, held: Stack) -> bool
     ensures { result ≡ is_taken set held }
 {
-    for i in 0..Stack::PLACES {
-        if (held.depth as usize) <= i {
-            return false;
-        }
-        let section = held.sections[i];
-        if sets::has(set, section.resource as usize) {
-            return true;
-        }
-    }
-    false
+    held.in_use()
+        .iter()
+        .any(|section| sets::has(set, section.resource as usize))
 }

@@ -15,8 +15,7 @@ pub(crate) fn walk(table: Table, state: State) -> Option<Seen>
     ensures { result ≡ walked table state }
 {
     let mut seen = Seen::NOTHING;
-    for k in 0..State::TASKS {
-        let job = state.jobs[k];
+    for (k, &job) in state.jobs.iter().enumerate() {
         if k < table.count {
             let task = table.tasks[k];
             let held = job.held;

@@ -71,10 +71,7 @@ pub fn rules(now: Tick, mark: Mark, seen: Seen, run: u64, task: Task, inherited:
     let old = mark_place(now, mark);
     let k = position(run);
     if run != seen.top {
-        let moved = mark_at(
-            now,
-            order::farther(old, true, order::farther(run, true, seen.last)),
-        );
+        let moved = mark_at(now, old.max(run.max(seen.last)));
         return Turn {
             runner: Some(k),
             mark: moved,
@@ -83,7 +80,7 @@ pub fn rules(now: Tick, mark: Mark, seen: Seen, run: u64, task: Task, inherited:
         };
     }
     if run < seen.last {
-        let moved = mark_at(now, order::farther(old, true, seen.last));
+        let moved = mark_at(now, old.max(seen.last));
         return Turn {
             runner: Some(k),
             mark: moved,

@@ -1,11 +1,9 @@
 // Whether top is blocked, and the runner.
-ghost use Rattle.std.specs.Prelude.{◌≡◌, ◌&&◌, leb};
-ghost use Rattle.units.specs.Sets.{has};
+ghost use Rattle.std.specs.Prelude.{◌≡◌};
 ghost use Rattle.state.specs.Order.{position_of};
 ghost use Rattle.seen.specs.Seen.{barred, run_by};
 
 use seen::Seen;
-use state::State;
 use units::{Ticks, sets};
 
 // The position at a place of the order.
@@ -15,23 +13,11 @@ pub fn position(place: u64) -> u8
     (place % 256) as u8
 }
 
-// Whether a resource is held and its ceiling is at most the deadline.
-fn bars(held: u16, resource: usize, ceiling: Ticks, deadline: Ticks) -> bool
-    ensures { result ≡ has held resource && leb ceiling.0 deadline.0 }
-{
-    sets::has(held, resource) && ceiling.0 <= deadline.0
-}
-
-// Whether some resource that is held bars the deadline.
+// Whether some resource that is held has a ceiling that is at most the deadline.
 fn barred(held: u16, ceilings: [Ticks; 8], deadline: Ticks) -> bool
     ensures { result ≡ barred held ceilings deadline.0 }
 {
-    for r in 0..State::RESOURCES {
-        if bars(held, r, ceilings[r], deadline) {
-            return true;
-        }
-    }
-    false
+    ceilings.iter().enumerate().any(|(r, ceiling)| sets::has(held, r) && ceiling.0 <= deadline.0)
 }
 
 // The place of the runner, by top's deadline: top's, or where what is held bars that the first started job's.

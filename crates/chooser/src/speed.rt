@@ -1,101 +1,43 @@
 // The speed of a runner that stands in the way of those ahead of it.
-ghost use Rattle.std.specs.Prelude.{◌≡◌, cond, ◌&&◌, ltb, leb, ◌≤◌, min, max};
+ghost use Rattle.std.specs.Prelude.{◌≡◌, ◌≤◌, ◌&&◌, length, filter, min, max, leb, ltb};
+ghost use Rattle.std.specs.List.{fold, enumerate_from, zip};
 ghost use Rattle.units.specs.Amounts.{ticks};
-ghost use Rattle.choice.specs.Choice.{fastest};
-ghost use Rattle.seen.specs.Seen.{ahead_by, inherited_by};
+ghost use Rattle.state.specs.Order.{place};
+ghost use Rattle.seen.specs.Seen.{inherited_by};
 
 use crate::order;
 use state::{Job, State};
-use table::Table;
-use units::Ticks;
+use table::{Table, Task};
+use units::{Tick, Ticks};
 
-fn shorter(best: Ticks, counts: bool, deadline: Ticks) -> Ticks
-    ensures { result ≡ ticks (cond counts (min best.0 deadline.0) best.0) }
+// The shortest D of the jobs ahead of a place, each with its task.
+fn shortest_ahead(jobs: &[Job], tasks: &[Task], now: Tick, run: u64) -> u16
+    requires { length jobs.now ≤ 16 }
+    ensures { result ≡ fold (λ m x. min m x.1.1.deadline.0) 65535 (filter (λ x. x.1.0.pending && ltb (place now.0 x.1.0.deadline.0 x.0) run) (enumerate_from 0 (zip jobs.now tasks.now))) }
 {
-    if counts {
-        if deadline.0 < best.0 {
-            return deadline;
-        }
-    }
-    best
-}
-
-fn faster(best: u8, counts: bool, speed: u8) -> u8
-    ensures { result ≡ cond counts (max best speed) best }
-{
-    if counts {
-        if best < speed {
-            return speed;
-        }
-    }
-    best
-}
-
-// Whether the job, at its place, is ahead of another.
-fn is_ahead(job: Job, place: u64, other: u64) -> bool
-    ensures { result ≡ job.pending && ltb place other }
-{
-    job.pending && place < other
-}
-
-// Whether a D lies between two, both counted.
-fn lies_between(deadline: Ticks, low: Ticks, high: Ticks) -> bool
-    ensures { result ≡ leb low.0 deadline.0 && leb deadline.0 high.0 }
-{
-    low.0 <= deadline.0 && deadline.0 <= high.0
-}
-
-// The shortest D of the jobs ahead of a place, among the first n.
-fn shortest_ahead(table: Table, state: State, run: u64, n: usize) -> Ticks
-    requires { n ≤ 16 }
-    ensures { result ≡ ticks (ahead_by table state run n) }
-{
-    let mut best = Ticks(65535);
-    for k in 0..n {
-        let job = state.jobs[k];
-        let task = table.tasks[k];
-        let at = order::place(state.tick, job.deadline, k as u8);
-        let next = shorter(best, is_ahead(job, at, run), task.deadline);
-        best = next;
-    }
-    best
+    jobs.iter()
+        .zip(tasks)
+        .enumerate()
+        .filter(|(k, (job, _))| job.pending && order::place(now, job.deadline, *k as u8) < run)
+        .fold(u16::MAX, |best, (_, (_, task))| best.min(task.deadline.0))
 }
 
 // The largest S of the tasks whose D lies between two, both counted.
-fn fastest(table: Table, low: Ticks, high: Ticks, n: usize) -> u8
-    requires { n ≡ min table.count 16 }
-    ensures { result ≡ fastest table low.0 high.0 }
+fn fastest(tasks: &[Task], low: u16, high: u16) -> u8
+    ensures { result ≡ fold (λ m x. max m x.synchronization) 0 (filter (λ x. leb low x.deadline.0 && leb x.deadline.0 high) tasks.now) }
 {
-    let mut best: u8 = 0;
-    for k in 0..n {
-        let task = table.tasks[k];
-        best = faster(
-            best,
-            lies_between(task.deadline, low, high),
-            task.synchronization,
-        );
-    }
-    best
+    tasks
+        .iter()
+        .filter(|task| low <= task.deadline.0 && task.deadline.0 <= high)
+        .fold(0u8, |best, task| best.max(task.synchronization))
 }
 
-// How many positions there are: the task count, and 16 at most. A bound that is not known beforehand, so that the compiler keeps a state in one piece.
-fn positions(count: usize) -> usize
-    ensures { result ≡ min count 16 }
-{
-    if count < State::TASKS {
-        return count;
-    }
-    State::TASKS
-}
-
-// By the runner's place and its own D.
+// By the runner's place and its own D. The positions are as many as the task count, and 16 at most: a bound that is not known beforehand, so that the compiler keeps a state in one piece.
 pub fn inherited(table: Table, state: State, run: u64, own: Ticks) -> u8
     ensures { result ≡ inherited_by table state run own.0 }
 {
-    let n = positions(table.count);
-    let ahead = shortest_ahead(table, state, run, n);
-    if own.0 <= ahead.0 {
-        return fastest(table, own, ahead, n);
-    }
-    fastest(table, ahead, own, n)
+    let n = table.count.min(State::TASKS);
+    let tasks = &table.tasks[..n];
+    let ahead = shortest_ahead(&state.jobs[..n], tasks, state.tick, run);
+    fastest(tasks, own.0.min(ahead), own.0.max(ahead))
 }

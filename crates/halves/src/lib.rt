@@ -29,29 +29,24 @@ pub fn in_mid_tick(state: State, turn: Turn) -> State
     let p = runner_position(runner);
     let mut jobs = state.jobs;
     if p < State::TASKS {
-        let mut job = jobs[p];
-        job.started = true;
-        jobs[p] = job;
+        jobs[p].started = true;
     }
-    let tick = state.tick;
     State {
-        tick,
         jobs,
         mark,
         half: Half::Second,
         runner,
+        ..state
     }
 }
 
 fn waited(job: Job) -> Job
     ensures { result ≡ waited job }
 {
-    let mut next = job;
-    if 0 < job.wait.0 {
-        let wait = Ticks(job.wait.0 - 1);
-        next.wait = wait;
+    Job {
+        wait: Ticks(job.wait.0.saturating_sub(1)),
+        ..job
     }
-    next
 }
 
 // The state a tick later, with the job at a position as its report left it; there is none at a position above 15.
@@ -62,18 +57,15 @@ pub fn closed(state: State, position: usize, job: Job) -> State
     if position < State::TASKS {
         jobs[position] = job;
     }
-    for k in 0..State::TASKS {
-        let before = jobs[k];
-        jobs[k] = waited(before);
+    for next in &mut jobs {
+        *next = waited(*next);
     }
-    let mark = state.mark;
-    let tick = state.tick.after(Ticks(1));
     State {
-        tick,
+        tick: state.tick.after(Ticks(1)),
         jobs,
-        mark,
         half: Half::First,
         runner: None,
+        ..state
     }
 }
 

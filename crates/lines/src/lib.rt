@@ -4,6 +4,7 @@
 ghost use Rattle.std.specs.Prelude.{◌≡◌};
 ghost use Rattle.lines.specs.Lines.{text, leaves, answers};
 
+use pieces::Part;
 use state::{Mode, Runner};
 use units::Tick;
 
@@ -39,24 +40,26 @@ impl Line {
     pub fn write(self, out: &mut [u8]) -> usize
         ensures { (out.new ≡ leaves 64 out.old (text self)) × (result ≡ answers 64 out.old (text self)) }
     {
-        if out.len() < Line::ROOM {
+        if out.len() < Self::ROOM {
             return 0;
         }
+        let mut part = Part { out, at: 0 };
         match self {
-            Line::Table(number) => writers::table(out, number),
+            Line::Table(number) => part.table(number),
             Line::Release {
                 tick,
                 position,
                 number,
-            } => writers::release(out, tick, position, number),
+            } => part.release(tick, position, number),
             Line::Run {
                 tick,
                 runner,
                 mode,
                 speed,
                 ending,
-            } => writers::run(out, tick, runner, mode, speed, ending),
-            Line::Refused { tick, number } => writers::refused(out, tick, number),
+            } => part.run(tick, runner, mode, speed, ending),
+            Line::Refused { tick, number } => part.refused(tick, number),
         }
+        part.at
     }
 }

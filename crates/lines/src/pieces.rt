@@ -1,80 +1,79 @@
-// The pieces of a line: each writes at `at` and answers where the next one goes.
-ghost use Rattle.std.specs.Prelude.{[], ◌∷◌, ◌+◌, ◌≤◌, ◌<◌, length};
-ghost use Rattle.lines.specs.Lines.{digits, decimal, field, runner, mode};
-ghost use Rattle.lines.specs.Writing.{Put};
+// The pieces of a line, each written behind those before it.
+ghost use Rattle.std.specs.Prelude.{◌≡◌, [], ◌∷◌, ◌+◌, ◌≤◌, ◌<◌, length};
+ghost use Rattle.lines.specs.Lines.{decimal, field, runner, mode};
+ghost use Rattle.lines.specs.Writing.{Wrote};
 
 use state::{Mode, Runner};
 
-pub(crate) fn byte(out: &mut [u8], at: usize, value: u8) -> usize
-    requires { at < length out.old }
-    ensures { Put out.old at (value ∷ []) result out.new }
-{
-    out[at] = value;
-    at + 1
+// The lent part of the output, and where its next byte goes.
+#[derive(Drop)]
+pub(crate) struct Part<'a> {
+    pub(crate) out: &'a mut [u8],
+    pub(crate) at: usize,
 }
 
-pub(crate) fn text(out: &mut [u8], at: usize, word: &[u8]) -> usize
-    requires { at + length word.now ≤ length out.old }
-    ensures { Put out.old at word.now result out.new }
-{
-    let mut i = 0;
-    while i < word.len() {
-        out[at + i] = word[i];
-        i += 1;
+impl Part<'_> {
+    pub(crate) fn byte(&mut self, value: u8)
+        requires { self.old.at < length self.old.out.now }
+        ensures { Wrote self.old self.new (value ∷ []) }
+    {
+        self.out[self.at] = value;
+        self.at += 1;
     }
-    at + i
-}
 
-// The first digit comes out of the deepest call, so that each is written in its own place.
-fn digits(out: &mut [u8], at: usize, n: u32, most: usize) -> usize
-    requires { at + most ≤ length out.old }
-    ensures { Put out.old at (digits most n) result out.new }
-{
-    if most == 0 {
-        return at;
+    pub(crate) fn text(&mut self, word: &[u8])
+        requires { self.old.at + length word.now ≤ length self.old.out.now }
+        ensures { Wrote self.old self.new word.now }
+    {
+        let end = self.at + word.len();
+        self.out[self.at..end].copy_from_slice(word);
+        self.at = end;
     }
-    if n < 10 {
-        return byte(out, at, b'0' + (n % 10) as u8);
+
+    // The first digit comes out of the deepest call, so that each is written in its own place. No `write!`: it would have to answer where a
+    // text does not fit, and here each has room.
+    pub(crate) fn number(&mut self, n: u32)
+        requires { self.old.at + 10 ≤ length self.old.out.now }
+        ensures wrote { Wrote self.old self.new (decimal n) }
+        ensures upper_bound { self.new.at ≤ self.old.at + 10 }
+    {
+        if n >= 10 {
+            self.number(n / 10);
+        }
+        self.byte(b'0' + (n % 10) as u8);
     }
-    let end = digits(out, at, n / 10, most - 1);
-    byte(out, end, b'0' + (n % 10) as u8)
-}
 
-pub(crate) fn number(out: &mut [u8], at: usize, n: u32) -> usize
-    requires { at + 10 ≤ length out.old }
-    ensures put { Put out.old at (decimal n) result out.new }
-    ensures upper_bound { result ≤ at + 10 }
-{
-    digits(out, at, n, 10)
-}
-
-pub(crate) fn field(out: &mut [u8], at: usize, n: u8) -> usize
-    requires { at + 11 ≤ length out.old }
-    ensures put { Put out.old at (field (decimal n)) result out.new }
-    ensures upper_bound { result ≤ at + 11 }
-{
-    let end = byte(out, at, b' ');
-    number(out, end, n as u32)
-}
-
-pub(crate) fn runner(out: &mut [u8], at: usize, who: Runner) -> usize
-    requires { at + 11 ≤ length out.old }
-    ensures put { Put out.old at (field (runner who)) result out.new }
-    ensures upper_bound { result ≤ at + 11 }
-{
-    match who {
-        None => text(out, at, b" -"),
-        Some(position) => field(out, at, position),
+    #[tactic(auto, using(crate::proofs::Laws::Pieces::wrote_more), unfolding(crate::specs::Lines::field))]
+    pub(crate) fn field(&mut self, n: u8)
+        requires { self.old.at + 11 ≤ length self.old.out.now }
+        ensures wrote { Wrote self.old self.new (field (decimal n)) }
+        ensures upper_bound { self.new.at ≤ self.old.at + 11 }
+    {
+        self.byte(b' ');
+        self.number(u32::from(n));
     }
-}
 
-pub(crate) fn mode(out: &mut [u8], at: usize, how: Mode) -> usize
-    requires { at + 2 ≤ length out.old }
-    ensures put { Put out.old at (field (mode how)) result out.new }
-    ensures upper_bound { result ≤ at + 2 }
-{
-    match how {
-        Mode::Independent => text(out, at, b" i"),
-        Mode::Synchronization => text(out, at, b" s"),
+    #[tactic(auto, using(crate::proofs::Laws::Pieces::wrote_more), unfolding(crate::specs::Lines::field, crate::specs::Lines::runner))]
+    pub(crate) fn runner(&mut self, who: Runner)
+        requires { self.old.at + 11 ≤ length self.old.out.now }
+        ensures wrote { Wrote self.old self.new (field (runner who)) }
+        ensures upper_bound { self.new.at ≤ self.old.at + 11 }
+    {
+        match who {
+            None => self.text(b" -"),
+            Some(position) => self.field(position),
+        }
+    }
+
+    #[tactic(auto, using(crate::proofs::Laws::Pieces::wrote_more), unfolding(crate::specs::Lines::field, crate::specs::Lines::mode))]
+    pub(crate) fn mode(&mut self, how: Mode)
+        requires { self.old.at + 2 ≤ length self.old.out.now }
+        ensures wrote { Wrote self.old self.new (field (mode how)) }
+        ensures upper_bound { self.new.at ≤ self.old.at + 2 }
+    {
+        match how {
+            Mode::Independent => self.text(b" i"),
+            Mode::Synchronization => self.text(b" s"),
+        }
     }
 }

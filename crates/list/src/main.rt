@@ -7,6 +7,7 @@ use std::env::FillError;
 use std::io::{Read, Write};
 use std::rt::{Env, Files};
 use std::{fs, io};
+use verdict::Fault;
 
 // The system's numbers for an argument that there is not, and for one that is too long.
 const INVALID: i32 = 22;
@@ -46,13 +47,14 @@ fn fail(rt: &impl Eprint, what: &str, error: io::Error) {
 
 // Names the task that a table's number is about, on standard error, since the listing has the number alone.
 fn name_position(rt: &impl Eprint, file: &[u8]) {
-    let verdict = admission::verdict_of(records::table(file));
-    let names_a_task = match verdict::number(verdict) {
-        4 | 5 | 6 | 8 => true,
-        _ => false,
-    };
-    if names_a_task && records::well_formed(file) {
-        let position = verdict::position(verdict);
+    if let Err(
+        Fault::Range(position)
+        | Fault::Divisor(position)
+        | Fault::Order(position)
+        | Fault::Synchronization(position),
+    ) = admission::verdict_of(records::table(file))
+        && records::well_formed(file)
+    {
         let _ = eprintln!(rt; "list: the number is that of position {position}, counted from 0");
     }
 }
@@ -79,24 +81,22 @@ fn list(rt: &(impl Print + Eprint), input: &mut impl Read, name: &str) {
     }
 }
 
-// A name that is not UTF-8 is refused, since the names that std opens are text.
-fn list_named(rt: &(impl Env + Files + Print + Eprint)) {
-    let mut path = [0u8; 4096];
-    let length = match rt.arg(1, &mut path) {
-        Ok(length) => length,
-        Err(why) => {
-            let number = match why {
-                FillError::NotPresent => INVALID,
-                FillError::TooLong => TOO_LONG,
-            };
-            fail(rt, "the file's name", io::Error::from_raw_os_error(number));
-            return;
-        }
+// The system's error for an argument that did not come into its buffer.
+fn no_argument(why: FillError) -> io::Error {
+    let number = match why {
+        FillError::NotPresent => INVALID,
+        FillError::TooLong => TOO_LONG,
     };
-    let Ok(name) = str::from_utf8(&path[..length]) else {
-        fail(rt, "the file's name", io::Error::other("not UTF-8"));
-        return;
-    };
+    io::Error::from_raw_os_error(number)
+}
+
+// The name that the program was given. One that is not UTF-8 is refused, since the names that std opens are text.
+fn name_in<'a>(rt: &impl Env, path: &'a mut [u8]) -> io::Result<&'a str> {
+    let length = rt.arg(1, path).map_err(no_argument)?;
+    str::from_utf8(&path[..length]).map_err(|_| io::Error::other("not UTF-8"))
+}
+
+fn list_named(rt: &(impl Files + Print + Eprint), name: &str) {
     match fs::open(rt, name) {
         Ok(mut file) => list(rt, &mut file, name),
         Err(error) => fail(rt, name, error),
@@ -105,24 +105,21 @@ fn list_named(rt: &(impl Env + Files + Print + Eprint)) {
 
 // How many arguments the program was started with, its own name among them. No more than three are counted.
 fn arg_count(rt: &impl Env) -> usize {
-    let mut text = [0u8; 1];
-    for count in 0..3usize {
-        if let Err(FillError::NotPresent) = rt.arg(count, &mut text) {
-            return count;
-        }
-    }
-    3
+    let is_there = |k: &usize| !matches!(rt.arg(*k, &mut [0u8; 1]), Err(FillError::NotPresent));
+    (0..3).take_while(is_there).count()
 }
 
 fn main(rt: HostRuntime) {
-    let count = arg_count(&rt);
-    if count <= 1 {
-        list(&rt, &mut rt.stdin(), "standard input");
-        return;
+    match arg_count(&rt) {
+        0 | 1 => list(&rt, &mut rt.stdin(), "standard input"),
+        2 => match name_in(&rt, &mut [0u8; 4096]) {
+            Ok(name) => list_named(&rt, name),
+            Err(error) => fail(&rt, "the file's name", error),
+        },
+        _ => {
+            let _ = eprintln!(rt;
+                "list: one file at a time, or none and the records on standard input"
+            );
+        }
     }
-    if count == 2 {
-        list_named(&rt);
-        return;
-    }
-    let _ = eprintln!(rt; "list: one file at a time, or none and the records on standard input");
 }

@@ -19,63 +19,50 @@ use Rattle.records.specs.{Records.event_count, Records.well_formed, Contents.tab
 use Rattle.lines.specs.declared.Line.TheVariants as Line
 use Rattle.lines.specs.Lines.{text, laid, leaves, answers}
 use Rattle.lines.proofs.Laws.{Lengths.text-le, Whole.Written, Whole.Laid, Whole.written-laid, Whole.laid-written}
-use Rattle.lines.proofs.Laws.Following.{Begins, lent_from, back_at, begins_first, begins_more}
+use Rattle.lines.proofs.Laws.Following.{Begins, lent_from, lent_length, back_at, begins_first, begins_more}
 use Rattle.records.proofs.Laws.{lines_within}
 use Rattle.listing.specs.Listing.{page, listed, listing}
 use Rattle.listing.proofs.Laws.Events.{page-le}
 
--- what the table's line leaves: room for the events behind it, and with what follows the listing of the file
-pub record Begun (l file : List ℕ) (t : Table) (s : State) (n r : ℕ) (m : List ℕ) : Type 0 where
-  pub behind : r + 64 * event_count file ≤ length m
-  pub fits : r + length (page file t s (event_count file)).text ≤ length m
-  pub stops : (n ≡ 0 → ⊥) → Laid l (listed file) r m
-  pub goes : {end : ℕ} {whole : List ℕ} → n ≡ 0 → Laid (lent_from m r) (page file t s (event_count file)).text end whole → Laid l (listed file) (r + end) (back_at m r whole)
+-- the table's line is written, and its number is n
+module _ (l file : List ℕ) {t : Table} {now : Tick} {s : Start} {n r : ℕ} {m : List ℕ} (room : 64 + 64 * event_count file ≤ length l) (reads : t ≡ table file)
+    (begins : now ≡ start file) (starts : s ≡ fresh t now) (says : n ≡ (answer s.verdict).0) (w : Written 64 l (text (Line.Table n)) r m) where
+  number : n ≡ (answer (verdict (table file))).0
+  unfolding fresh
+  number = says ∙ rw (starts, reads) refl
 
-pub begun : {t : Table} {now : Tick} {s : Start} {n r : ℕ} {m : List ℕ} (l file : List ℕ) → 64 + 64 * event_count file ≤ length l
-    → t ≡ table file → now ≡ start file → s ≡ fresh t now → n ≡ (answer s.verdict).0 → Written 64 l (text (Line.Table n)) r m → Begun l file t s.state n r m
-unfolding listed fresh
-begun {t} {now} {s} {n} {r} {m} l file room reads begins starts says w = record { behind = behind; fits = fits; stops = stops; goes = goes }
-  where
-    line : List ℕ
-    line = text (Line.Table n)
+  first : Begins l (text (Line.Table n)) m r
+  first = begins_first l (text (Line.Table n)) (omega (arith, text-le (Line.Table n))) (written-laid 64 l (text (Line.Table n)) (omega arith) w)
 
-    events : List ℕ
-    events = (page file t s.state (event_count file)).text
+  -- there is room for the events behind it
+  pub begun_room : 64 * event_count file ≤ length (lent_from m r)
+  begun_room = omega (arith, lent_length m r, text-le (Line.Table n), first.1, first.2)
 
-    number : n ≡ (answer (verdict (table file))).0
-    number = says ∙ rw (starts, reads) refl
+  -- and with what follows it is the listing of the file
+  pub begun : {end : ℕ} {whole : List ℕ} → n ≡ 0 → Laid (lent_from m r) (page file t s.state (event_count file)).text end whole → Laid l (listed file) (r + end) (back_at m r whole)
+  unfolding listed fresh
+  begun h laid =
+      let events = (page file t s.state (event_count file)).text in
+      let e : listed file ≡ text (Line.Table n) ++ events = rw (← number, eq-eqb _ _ h, starts, begins, reads) refl in
+      let fits : r + length events ≤ length m = omega (arith, begun_room, lent_length m r, page-le file t s.state (event_count file), first.1, first.2, text-le (Line.Table n)) in
+      let all = begins_more l (text (Line.Table n)) m r events first fits laid in
+      rw e (all.0, all.1)
 
-    first : Begins l line m r
-    first = begins_first l line (omega (arith, text-le (Line.Table n))) (written-laid 64 l line (omega arith) w)
+  -- where the table does not pass it is that alone
+  alone : (n ≡ 0 → ⊥) → Laid l (listed file) r m
+  unfolding listed
+  alone h = let e : listed file ≡ text (Line.Table n) = rw (← number, ne_eqb _ _ h) (append-nil _) in rw e (first.0, first.1)
 
-    behind : r + 64 * event_count file ≤ length m
-    behind = omega (arith, text-le (Line.Table n), first.1, first.2)
-
-    fits : r + length events ≤ length m
-    fits = omega (arith, behind, page-le file t s.state (event_count file))
-
-    stops : (n ≡ 0 → ⊥) → Laid l (listed file) r m
-    stops h =
-        let e : listed file ≡ line = rw (← number, ne_eqb _ _ h) (append-nil _) in
-        rw e (first.0, first.1)
-
-    goes : {end : ℕ} {whole : List ℕ} → n ≡ 0 → Laid (lent_from m r) events end whole → Laid l (listed file) (r + end) (back_at m r whole)
-    goes h laid =
-        let e : listed file ≡ line ++ events = rw (← number, eq-eqb _ _ h, starts, begins, reads) refl in
-        let all = begins_more l line m r events first fits laid in
-        rw e (all.0, all.1)
-
--- a file whose table does not pass is listed with the table's line alone
 module _ (l file : List ℕ) {t : Table} {now : Tick} {s : Start} {n : ℕ} (room : 64 + 64 * event_count file ≤ length l) (reads : t ≡ table file)
     (begins : now ≡ start file) (starts : s ≡ fresh t now) (says : n ≡ (answer s.verdict).0) (not_passed : n ≡ 0 → ⊥) where
-  alone : (r : ℕ) (m : List ℕ) → Written 64 l (text (Line.Table n)) r m → Laid l (listed file) r m
-  alone r m w = (begun l file room reads begins starts says w).stops not_passed
+  as_written : Laid l (listed file) (answers 64 l (text (Line.Table n))) (leaves 64 l (text (Line.Table n)))
+  as_written = alone l file room reads begins starts says (refl, refl) not_passed
 
   pub alone_text : laid l (listed file) ≡ leaves 64 l (text (Line.Table n))
-  alone_text = sym (alone (answers 64 l (text (Line.Table n))) (leaves 64 l (text (Line.Table n))) (refl, refl)).0
+  alone_text = sym as_written.0
 
   pub alone_count : answers 64 l (text (Line.Table n)) ≡ length (listed file)
-  alone_count = (alone (answers 64 l (text (Line.Table n))) (leaves 64 l (text (Line.Table n))) (refl, refl)).1
+  alone_count = as_written.1
 
 listed_le : (file : List ℕ) → length (listed file) ≤ 64 + 64 * event_count file
 unfolding listed
@@ -104,10 +91,10 @@ listing-le file = go (well_formed file) refl
 
 -- what a listing leaves and answers; it can be taken out
 abbrev pub Listed : List ℕ → List ℕ → ℕ → List ℕ → Type 0
-Listed l file r m = (Written 131072 l (listing file) r m) × ((r ≤ length m) × (r ≡ length (take r m)))
+Listed l file r m = record { out_after : Written 131072 l (listing file) r m; upper_bound : (r ≤ length m) × (r ≡ length (take r m)) }
 
 pub listed-whole : {m : List ℕ} {r : ℕ} (l file : List ℕ) → Written 131072 l (listing file) r m → Listed l file r m
-listed-whole {m} {r} l file w = (w, counts (dec_le 131072 (length l)))
+listed-whole {m} {r} l file w = record { out_after = w; upper_bound = counts (dec_le 131072 (length l)) }
   where
     within : r ≤ length m → (r ≤ length m) × (r ≡ length (take r m))
     within h = (h, sym (length-take-le r m h))

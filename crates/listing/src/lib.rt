@@ -27,16 +27,12 @@ fn write_events(file: &[u8], table: Table, start: State, out: &mut [u8]) -> usiz
     ensures { (out.new ≡ laid out.old (page file.now table start (event_count file.now)).text) × (result ≡ length (page file.now table start (event_count file.now)).text) }
 {
     let first = records::first_event(file);
-    let count = records::event_count(file);
     let mut state = start;
     let mut at = 0;
-    let mut k = 0;
-    while k < count {
+    for k in 0..records::event_count(file) {
         let step = steps::step(table, state, records::event_at(file, first + k));
-        let line = step.line;
-        at += line.write(&mut out[at..]);
+        at += step.line.write(&mut out[at..]);
         state = step.state;
-        k += 1;
     }
     at
 }
@@ -49,8 +45,7 @@ fn write_listed(file: &[u8], out: &mut [u8]) -> usize
 {
     let table = records::table(file);
     let start = State::fresh(table, records::start(file));
-    let verdict = start.verdict;
-    let number = verdict::number(verdict);
+    let number = verdict::number(start.verdict);
     let at = Line::Table(number).write(out);
     if number != 0 {
         return at;

@@ -7,9 +7,9 @@ ghost use Rattle.machine.specs.Machine.{mid_tick, released};
 
 use choice::Turn;
 use report::Outcome;
-use state::{Half, Job, Refusal, Report, Stack, State};
+use state::{Half, Job, Refusal, Report, State};
 use table::{Table, Task};
-use units::{Steps, Tick};
+use units::Tick;
 
 pub(crate) fn mid_tick(half: Half) -> bool
     ensures { result ≡ mid_tick half }
@@ -21,15 +21,11 @@ pub(crate) fn mid_tick(half: Half) -> bool
 pub(crate) fn released(task: Task, now: Tick) -> Job
     ensures { result ≡ released task now.0 }
 {
-    let deadline = now.after(task.deadline);
-    let wait = task.period;
     Job {
         pending: true,
-        started: false,
-        deadline,
-        used: Steps(0),
-        held: Stack::EMPTY,
-        wait,
+        deadline: now.after(task.deadline),
+        wait: task.period,
+        ..Job::NONE
     }
 }
 

@@ -3,55 +3,57 @@
 // Three files stand in its stored run: that of the paper's whole listing, an empty one, and a setting without tasks.
 #![tactic(auto)]
 
+use std::io;
 use std::io::Read;
 
-// A number of four bytes, the lowest first.
-fn number(a: u8, b: u8, c: u8, d: u8) -> usize {
-    a as usize + b as usize * 256 + (c as usize + d as usize * 256) * 65536
+// Why no file more is listed.
+#[derive(Clone, Copy, Debug, PartialEq, Eq)]
+enum Stop {
+    AtEnd,
+    TooLong,
+    CutShort,
+    Unwritten,
 }
 
-// The length of the next file; at the pack's end, one that no file has.
-fn next_length(input: &mut impl Read) -> usize {
+// The length of the next file, if there is one.
+fn next_length(input: &mut impl Read) -> Option<usize> {
     let mut four = [0u8; 4];
-    if input.read_exact(&mut four).is_err() {
-        return usize::MAX;
-    }
-    number(four[0], four[1], four[2], four[3])
+    input.read_exact(&mut four).ok()?;
+    usize::try_from(u32::from_le_bytes(four)).ok()
 }
 
-fn list(rt: &impl Print, file: &[u8]) -> bool {
+fn list(rt: &impl Print, file: &[u8]) -> io::Result<()> {
     let mut out = [0u8; listing::ROOM];
     let end = listing::list(file, &mut out);
-    if rt.write_all(&out[..end]).is_err() {
-        return false;
-    }
-    rt.write_all(b"\n").is_ok()
+    rt.write_all(&out[..end])?;
+    rt.write_all(b"\n")
 }
 
-// Lists the next file, in the space for one, and answers whether there may be more.
-fn list_next(rt: &(impl Print + Eprint), input: &mut impl Read, space: &mut [u8]) -> bool {
-    let length = next_length(input);
-    if length == usize::MAX {
-        return false;
-    }
-    if space.len() < length {
-        let _ = eprintln!(rt; "pack: a file is longer than the space for one");
-        return false;
-    }
-    if input.read_exact(&mut space[..length]).is_err() {
-        let _ = eprintln!(rt; "pack: it ends within a file");
-        return false;
-    }
-    list(rt, &space[..length])
+// Lists the next file, in the space for one.
+fn list_next(rt: &impl Print, input: &mut impl Read, space: &mut [u8]) -> Result<(), Stop> {
+    let length = next_length(input).ok_or(Stop::AtEnd)?;
+    let file = space.get_mut(..length).ok_or(Stop::TooLong)?;
+    input.read_exact(file).map_err(|_| Stop::CutShort)?;
+    list(rt, file).map_err(|_| Stop::Unwritten)
 }
 
-// A loop that is proved has to end: this one counts its turns down, from a number that no pack uses up.
+fn say(rt: &impl Eprint, stop: Stop) {
+    let words = match stop {
+        Stop::TooLong => "a file is longer than the space for one",
+        Stop::CutShort => "it ends within a file",
+        Stop::AtEnd | Stop::Unwritten => return,
+    };
+    let _ = eprintln!(rt; "pack: {words}");
+}
+
+// A loop that is proved has to end: this one's turns are more than the files of any pack.
 fn main(rt: HostRuntime) {
     let mut input = rt.stdin();
-    let mut file = [0u8; 131072];
-    let space: &mut [u8] = &mut file;
-    let mut turns = u64::MAX;
-    while turns > 0 && list_next(&rt, &mut input, space) {
-        turns -= 1;
+    let mut space = [0u8; 131072];
+    for _file in 0..u64::MAX {
+        if let Err(stop) = list_next(&rt, &mut input, &mut space) {
+            say(&rt, stop);
+            return;
+        }
     }
 }

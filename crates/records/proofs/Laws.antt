@@ -1,4 +1,5 @@
 -- Laws of a file's records. Assumes nothing.
+pub mod Lists
 use Prim.Native.Nat.{ℕ, ◌+◌, ◌-◌, ◌%◌, ◌≤◌}
 use mathlib.Core.Path.{◌≡◌}
 use mathlib.Core.Bool.{true}

@@ -1,49 +1,41 @@
 // What kind of record it is, and whether all are in their places. Every byte that a record's kind does not name is zero.
-ghost use Rattle.std.specs.Prelude.{◌≡◌, ◌&&◌, ◌+◌, ◌-◌, ◌≤◌, eqb};
+ghost use Rattle.std.specs.Prelude.{◌≡◌, ℕ, ◌+◌, ◌-◌, [], length, get_or};
 ghost use Rattle.units.specs.Folds.{all};
-ghost use Rattle.records.specs.Bytes.{record_count, record_at, byte, zeros};
+ghost use Rattle.records.specs.Bytes.{record_count, record_at};
 ghost use Rattle.records.specs.Records.{sized, is_setting, is_task, event_fits, is_event, task_count};
+ghost use Rattle.records.specs.Contents.{task_record};
 
-use crate::{MOST_BYTES, bytes};
+use crate::MOST_BYTES;
+use crate::bytes::{byte, records, zeros};
+
+// What a record's first byte says that it is.
+#[derive(Clone, Copy, Debug, PartialEq, Eq)]
+enum Kind {
+    Setting = 1,
+    Task = 2,
+    Event = 3,
+}
 
 // Whether so many bytes are whole records, one or more, and no more than a file has.
+#[tactic(auto, using(std::proofs::lemmas::Bool::Decides::nat_tests), unfolding(crate::specs::Records::sized))]
 pub(crate) fn sized(n: usize) -> bool
     ensures { result ≡ sized n }
 {
-    if n < 1 {
-        return false;
-    }
-    if MOST_BYTES < n {
-        return false;
-    }
-    n % 32 == 0
+    (1..=MOST_BYTES).contains(&n) && n.is_multiple_of(32)
 }
 
-// Whether the first byte is that of the kind, and two runs of bytes are zero.
-fn kind_fits(r: &[u8], kind: u8, i: usize, n: usize, j: usize, m: usize) -> bool
-    requires n_bound { i + n ≤ 32 }
-    requires m_bound { j + m ≤ 32 }
-    ensures { result ≡ (eqb (byte r.now 0) kind && (zeros r.now i n && zeros r.now j m)) }
+#[tactic(auto, using(std::proofs::lemmas::Bool::Decides::nat_tests), unfolding(crate::specs::Records::is_setting))]
+pub(crate) fn is_setting(bytes: &[u8]) -> bool
+    ensures { result ≡ is_setting bytes.now }
 {
-    if bytes::byte(r, 0) != kind {
-        return false;
-    }
-    if !bytes::zeros(r, i, n) {
-        return false;
-    }
-    bytes::zeros(r, j, m)
+    byte(bytes, 0) == Kind::Setting as u8 && zeros(bytes, 2..4) && zeros(bytes, 12..32)
 }
 
-pub(crate) fn is_setting(r: &[u8]) -> bool
-    ensures { result ≡ is_setting r.now }
+#[tactic(auto, using(std::proofs::lemmas::Bool::Decides::nat_tests), unfolding(crate::specs::Records::is_task))]
+fn is_task(bytes: &[u8]) -> bool
+    ensures { result ≡ is_task bytes.now }
 {
-    kind_fits(r, 1, 2, 2, 12, 20)
-}
-
-fn is_task(r: &[u8]) -> bool
-    ensures { result ≡ is_task r.now }
-{
-    kind_fits(r, 2, 3, 1, 10, 6)
+    byte(bytes, 0) == Kind::Task as u8 && zeros(bytes, 3..4) && zeros(bytes, 10..16)
 }
 
 // Whether three bytes are a release, or a tick with its report. Byte 3 names a resource at a take alone.
@@ -51,59 +43,41 @@ fn is_task(r: &[u8]) -> bool
 fn event_fits(kind: u8, said: u8, resource: u8) -> bool
     ensures { result ≡ event_fits kind said resource }
 {
-    if kind == 1 {
-        return resource == 0;
+    match (kind, said) {
+        (1, _) | (2, 0 | 1 | 3) => resource == 0,
+        (2, 2) => true,
+        _ => false,
     }
-    if kind != 2 {
-        return false;
-    }
-    if said == 2 {
-        return true;
-    }
-    if 3 < said {
-        return false;
-    }
-    resource == 0
 }
 
-fn is_event(r: &[u8]) -> bool
-    ensures { result ≡ is_event r.now }
+#[tactic(auto, using(std::proofs::lemmas::Bool::Decides::nat_tests), unfolding(crate::specs::Records::is_event))]
+fn is_event(bytes: &[u8]) -> bool
+    ensures { result ≡ is_event bytes.now }
 {
-    if bytes::byte(r, 0) != 3 {
-        return false;
-    }
-    if !bytes::zeros(r, 4, 28) {
-        return false;
-    }
-    event_fits(bytes::byte(r, 1), bytes::byte(r, 2), bytes::byte(r, 3))
+    byte(bytes, 0) == Kind::Event as u8
+        && zeros(bytes, 4..32)
+        && event_fits(byte(bytes, 1), byte(bytes, 2), byte(bytes, 3))
 }
 
-// How many tasks follow the setting.
-pub(crate) fn task_count(file: &[u8]) -> usize
-    ensures { result ≡ task_count file.now }
+// The records of the tasks: those behind the setting, up to the first that is none.
+pub(crate) fn tasks(file: &[u8]) -> &[[u8; 32]]
+    ensures len { length result.now ≡ task_count file.now }
+    ensures each { (k : ℕ) → get_or result.now k [] ≡ task_record file.now k }
 {
-    let n = bytes::record_count(file);
-    let mut k: usize = 0;
-    while 1 + k < n {
-        if !is_task(bytes::record(file, 1 + k)) {
-            return k;
-        }
-        k += 1;
-    }
-    k
+    let behind = records(file).get(1..).unwrap_or(&[]);
+    let count = behind
+        .iter()
+        .take_while(|record| is_task(record.as_slice()))
+        .count();
+    &behind[..count]
 }
 
 // Whether each record from the first on is an event.
 pub(crate) fn all_events(file: &[u8], first: usize) -> bool
     ensures { result ≡ all (λ k. is_event (record_at file.now (first + k))) (record_count file.now - first) }
 {
-    let n = bytes::record_count(file);
-    let mut k = first;
-    while k < n {
-        if !is_event(bytes::record(file, k)) {
-            return false;
-        }
-        k += 1;
-    }
-    true
+    records(file)
+        .iter()
+        .skip(first)
+        .all(|record| is_event(record))
 }

@@ -26,52 +26,43 @@ pub const MOST_BYTES: usize = 65536;
 pub fn first_event(file: &[u8]) -> usize
     ensures { result ≡ first_event file.now }
 {
-    1 + kinds::task_count(file)
+    1 + kinds::tasks(file).len()
 }
 
 // How many events there are.
 pub fn event_count(file: &[u8]) -> usize
     ensures { result ≡ event_count file.now }
 {
-    let n = bytes::record_count(file);
-    let first = first_event(file);
-    if n < first {
-        return 0;
-    }
-    n - first
+    bytes::records(file).len().saturating_sub(first_event(file))
 }
 
 // Whether the file is well-formed.
+#[tactic(auto, using(std::proofs::lemmas::Bool::Decides::nat_tests), unfolding(crate::specs::Records::well_formed))]
 pub fn well_formed(file: &[u8]) -> bool
     ensures { result ≡ well_formed file.now }
 {
-    if !kinds::sized(file.len()) {
-        return false;
-    }
-    if !kinds::is_setting(bytes::record(file, 0)) {
-        return false;
-    }
-    kinds::all_events(file, first_event(file))
+    kinds::sized(file.len())
+        && kinds::is_setting(bytes::record(file, 0))
+        && kinds::all_events(file, first_event(file))
 }
 
 // The table that the setting and the tasks make. Entries past the last task are zeros.
+#[tactic(auto, unfolding(crate::specs::Contents::table))]
 pub fn table(file: &[u8]) -> Table
     ensures { result ≡ table file.now }
 {
     let setting = bytes::record(file, 0);
-    let full = bytes::byte(setting, 1);
-    let round = bytes::long(setting, 4);
-    let count = kinds::task_count(file);
-    let tasks = contents::entries(file, count);
+    let tasks = kinds::tasks(file);
     Table {
-        full,
-        round,
-        count,
-        tasks,
+        full: bytes::byte(setting, 1),
+        round: bytes::long(setting, 4),
+        count: tasks.len(),
+        tasks: contents::entries(tasks),
     }
 }
 
 // The starting tick.
+#[tactic(auto, unfolding(crate::specs::Contents::start))]
 pub fn start(file: &[u8]) -> Tick
     ensures { result ≡ start file.now }
 {
@@ -79,12 +70,13 @@ pub fn start(file: &[u8]) -> Tick
 }
 
 // What the record at k says, where it is an event.
+#[tactic(auto, unfolding(crate::specs::Contents::event))]
 pub fn event_at(file: &[u8], k: usize) -> Event
     ensures { result ≡ event file.now k }
 {
-    let r = bytes::record(file, k);
-    if bytes::byte(r, 1) == 1 {
-        return Event::Release(bytes::byte(r, 2));
+    let record = bytes::record(file, k);
+    match bytes::byte(record, 1) {
+        1 => Event::Release(bytes::byte(record, 2)),
+        _ => Event::Tick(contents::report(bytes::byte(record, 2), bytes::byte(record, 3))),
     }
-    Event::Tick(contents::report(bytes::byte(r, 2), bytes::byte(r, 3)))
 }

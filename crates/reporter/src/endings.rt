@@ -8,48 +8,30 @@ use crate::sections;
 use report::Outcome;
 use state::{Ending, Job, Report, Stack};
 use table::Task;
-use units::{Steps, Tick};
+use units::Steps;
 
 // The job with the steps of its tick.
 pub(crate) fn worked(task: Task, speed: u8, job: Job) -> Job
     ensures { result ≡ worked task speed job }
 {
-    let before = job.held;
-    let most = task.budget;
-    let used = sections::rise(job.used, Steps::given(speed), most);
-    let mut next = holding(sections::held_on(task, speed, before), job);
-    next.used = used;
-    next
+    let used = sections::rise(job.used, Steps::given(speed), task.budget);
+    let held = sections::held_on(task, speed, job.held);
+    Job { used, held, ..job }
 }
 
 fn ended(job: Job) -> Job
     ensures { result ≡ ended job }
 {
-    let wait = job.wait;
     Job {
-        pending: false,
-        started: false,
-        deadline: Tick(0),
-        used: Steps(0),
-        held: Stack::EMPTY,
-        wait,
+        wait: job.wait,
+        ..Job::NONE
     }
 }
 
 fn holding(held: Stack, job: Job) -> Job
     ensures { result ≡ holding held job }
 {
-    let deadline = job.deadline;
-    let used = job.used;
-    let wait = job.wait;
-    Job {
-        pending: job.pending,
-        started: job.started,
-        deadline,
-        used,
-        held,
-        wait,
-    }
+    Job { held, ..job }
 }
 
 fn cut(job: Job) -> Outcome

@@ -1,157 +1,160 @@
-// What the commands set by hand: a table, a state, a job.
-use crate::line::Line;
-use crate::word;
-use state::{Half, Job, Mark, Place, Report, Runner, Section, Stack, State};
+// What the commands do: they set a table or a state by hand, or call the machine.
+use crate::command::Command;
+use crate::text::{Choice, StateText, ending, number};
+use state::{Half, Job, Mark, Refusal, Report, Runner, Section, Start, State, Success};
+use std::io;
 use table::{Table, Task};
 use units::{Steps, Tick, Ticks};
 
-fn byte(value: u64) -> u8 {
-    (value % 256) as u8
+const NO_TASK: Task = Task {
+    period: Ticks(0),
+    deadline: Ticks(0),
+    budget: Steps(0),
+    independent: 0,
+    synchronization: 0,
+    limits: [Steps(0); 8],
+};
+
+#[derive(Drop)]
+pub(crate) struct Desk {
+    table: Table,
+    state: State,
 }
 
-fn short(value: u64) -> u16 {
-    (value % 65536) as u16
-}
-
-pub(crate) fn tick(value: u64) -> Tick {
-    Tick((value % 4294967296) as u32)
-}
-
-fn task(line: Line) -> Task {
-    let limits = line.limits;
-    Task {
-        period: Ticks(short(line.fourth)),
-        deadline: Ticks(short(line.fifth)),
-        budget: Steps(short(line.sixth)),
-        independent: byte(line.seventh),
-        synchronization: byte(line.eighth),
-        limits,
-    }
+// Both halves of a tick. Where one is refused, the state is as before the first.
+fn tick(table: Table, state: State, said: Report) -> Result<Success, Refusal> {
+    let chosen = machine::choose(table, state)?;
+    machine::report(table, chosen.state, said)
 }
 
 // A table of the setting, with no numbers in its entries.
-pub(crate) fn table(line: Line) -> Table {
-    let task = task(Line::after(0));
+fn table(full: u8, round: u32, count: usize) -> Table {
     Table {
-        full: byte(line.sixth),
-        round: (line.seventh % 4294967296) as u32,
-        count: line.eighth as usize,
-        tasks: [task; 16],
+        full,
+        round,
+        count,
+        tasks: [NO_TASK; 16],
     }
 }
 
-// A table with a run of equal entries, from the first to the last.
-pub(crate) fn with_run(table: Table, line: Line) -> Table {
-    let task = task(line);
-    let mut next = table;
-    let mut k = (line.second % 16) as usize;
-    let last = (line.third % 16) as usize;
-    while k <= last {
-        next.tasks[k] = task;
-        k += 1;
+impl Desk {
+    // The table of no setting and no task, and the state that it starts with.
+    pub(crate) fn new() -> Desk {
+        let table = table(0, 0, 0);
+        let state = State::fresh(table, Tick(0)).state;
+        Desk { table, state }
     }
-    next
-}
 
-fn runner(value: u64) -> Runner {
-    match value {
-        Line::NONE => None,
-        _ => Some(byte(value)),
+    // A run of equal entries, from the first to the last: none where the last is before the first.
+    fn set_entries(&mut self, first: usize, last: usize, task: Task) {
+        if let Some(entries) = self.table.tasks.get_mut(first..=last) {
+            entries.fill(task);
+        }
     }
-}
 
-fn mark(value: u64, position: u64) -> Mark {
-    let deadline = tick(value);
-    match value {
-        Line::NONE => None,
-        _ => Some(Place {
-            deadline,
-            position: byte(position),
-        }),
-    }
-}
-
-// A state without jobs.
-pub(crate) fn state(line: Line) -> State {
-    let tick = tick(line.fourth);
-    let mut half = Half::Second;
-    if line.fifth == 1 {
-        half = Half::First;
-    }
-    let runner = runner(line.sixth);
-    let mark = mark(line.seventh, line.eighth);
-    let jobs = [Job::NONE; 16];
-    State {
-        tick,
-        jobs,
-        mark,
-        half,
-        runner,
-    }
-}
-
-// One section at the most. Where nothing is held, the steps are not looked at.
-fn held(value: u64, spent: u64) -> Stack {
-    let mut stack = Stack::EMPTY;
-    if value != Line::NONE {
-        let steps = Steps(short(spent));
-        stack.depth = 1;
-        stack.sections[0] = Section {
-            resource: byte(value),
-            steps,
+    // A state without jobs.
+    fn set_state(&mut self, tick: Tick, half: Half, runner: Runner, mark: Mark) {
+        self.state = State {
+            tick,
+            jobs: [Job::NONE; 16],
+            mark,
+            half,
+            runner,
         };
     }
-    stack
-}
 
-pub(crate) fn with_job(state: State, line: Line) -> State {
-    let deadline = tick(line.fourth);
-    let used = Steps(short(line.fifth));
-    let held = held(line.sixth, line.seventh);
-    let wait = Ticks(short(line.eighth));
-    let job = Job {
-        pending: line.second == 1,
-        started: line.third == 1,
-        deadline,
-        used,
-        held,
-        wait,
-    };
-    let mut next = state;
-    next.jobs[(line.first % 16) as usize] = job;
-    next
-}
-
-// A job's stack with another depth, or with another section at a place.
-pub(crate) fn with_stack(state: State, position: u64, line: Line) -> State {
-    let index = (position % 16) as usize;
-    let word = line.word;
-    let mut job = state.jobs[index];
-    let mut stack = job.held;
-    match word {
-        word::DEPTH => {
-            stack.depth = byte(line.eighth);
-        }
-        _ => {
-            let steps = Steps(short(line.eighth));
-            stack.sections[(line.sixth % 4) as usize] = Section {
-                resource: byte(line.seventh),
-                steps,
-            };
+    fn set_job(&mut self, position: usize, job: Job) {
+        if let Some(place) = self.state.jobs.get_mut(position) {
+            *place = job;
         }
     }
-    job.held = stack;
-    let mut next = state;
-    next.jobs[index] = job;
-    next
-}
 
-pub(crate) fn said(line: Line) -> Report {
-    let said = line.said;
-    match said {
-        word::DONE => Report::Done,
-        word::TAKE => Report::Take(byte(line.eighth)),
-        word::GIVE => Report::Give,
-        _ => Report::CarryOn,
+    fn set_depth(&mut self, position: usize, depth: u8) {
+        if let Some(job) = self.state.jobs.get_mut(position) {
+            job.held.depth = depth;
+        }
+    }
+
+    fn set_section(&mut self, position: usize, place: usize, section: Section) {
+        if let Some(job) = self.state.jobs.get_mut(position)
+            && let Some(room) = job.held.sections.get_mut(place)
+        {
+            *room = section;
+        }
+    }
+
+    fn start(&mut self, rt: &impl Print, tick: Tick) -> io::Result<()> {
+        let Start { verdict, state } = State::fresh(self.table, tick);
+        self.state = state;
+        let position = verdict::position(verdict);
+        println!(rt; "fresh {} {position}", verdict::number(verdict))
+    }
+
+    // A call that is refused leaves the state as it was.
+    fn go_on(&mut self, answer: Result<Success, Refusal>) {
+        if let Ok(success) = answer {
+            self.state = success.state;
+        }
+    }
+
+    fn release(&mut self, rt: &impl Print, position: usize) -> io::Result<()> {
+        let now = self.state.tick.0;
+        let answer = machine::release(self.table, self.state, position);
+        self.go_on(answer);
+        println!(rt; "{now} release {position} {}", number(answer))
+    }
+
+    fn choose(&mut self, rt: &impl Print) -> io::Result<()> {
+        let now = self.state.tick.0;
+        let answer = machine::choose(self.table, self.state);
+        self.go_on(answer);
+        println!(rt; "{now} choose {} {}", number(answer), Choice::of(answer))
+    }
+
+    fn report(&mut self, rt: &impl Print, said: Report) -> io::Result<()> {
+        let now = self.state.tick.0;
+        let answer = machine::report(self.table, self.state, said);
+        self.go_on(answer);
+        let choice = Choice::of(answer);
+        println!(rt; "{now} report {} {choice} {}", number(answer), ending(answer))
+    }
+
+    fn tick(&mut self, rt: &impl Print, said: Report) -> io::Result<()> {
+        let now = self.state.tick.0;
+        let answer = tick(self.table, self.state, said);
+        self.go_on(answer);
+        match answer {
+            Ok(_) => println!(rt; "{now} run {} {}", Choice::of(answer), ending(answer)),
+            Err(refusal) => println!(rt; "{now} refused {}", refusal.number()),
+        }
+    }
+
+    // Does what is commanded. An error is one of writing the answer.
+    pub(crate) fn obey(&mut self, rt: &impl Print, command: Command) -> io::Result<()> {
+        match command {
+            Command::Blank => {}
+            Command::Table { full, round, count } => self.table = table(full, round, count),
+            Command::Run { first, last, task } => self.set_entries(first, last, task),
+            Command::State {
+                tick,
+                half,
+                runner,
+                mark,
+            } => self.set_state(tick, half, runner, mark),
+            Command::Job { position, job } => self.set_job(position, job),
+            Command::Depth { position, depth } => self.set_depth(position, depth),
+            Command::Section {
+                position,
+                place,
+                section,
+            } => self.set_section(position, place, section),
+            Command::Fresh(tick) => return self.start(rt, tick),
+            Command::Release(position) => return self.release(rt, position),
+            Command::Choose => return self.choose(rt),
+            Command::Report(said) => return self.report(rt, said),
+            Command::Tick(said) => return self.tick(rt, said),
+            Command::Show => return println!(rt; "{}", StateText(&self.state)),
+        }
+        Ok(())
     }
 }

@@ -1,29 +1,20 @@
 // Who holds what.
-ghost use Rattle.std.specs.Prelude.{◌≡◌, cond, ◌&&◌, ltb, eqb};
-ghost use Rattle.units.specs.Sets.{with};
+ghost use Rattle.std.specs.Prelude.{◌≡◌};
+ghost use Rattle.state.specs.Stack.{in_use};
 ghost use Rattle.state.specs.Order.{holds_any, holds, with_held};
 
 use crate::{Section, Stack};
 use units::sets;
 
-// The place is in use, and by this resource.
-fn is(i: usize, depth: u8, section: Section, resource: u8) -> bool
-    ensures { result ≡ ltb i depth && eqb resource section.resource }
-{
-    i < (depth as usize) && resource == section.resource
-}
-
-// A set of resources, with the one at a place that is in use.
-fn with_place(i: usize, depth: u8, section: Section, set: u16) -> u16
-    ensures { result ≡ cond (ltb i depth) (with set section.resource) set }
-{
-    if i < (depth as usize) {
-        return sets::with(set, section.resource as usize);
-    }
-    set
-}
-
 impl Stack {
+    // The sections that the job is in, the outermost first.
+    pub fn in_use(&self) -> &[Section]
+        ensures { result.now ≡ in_use self.now }
+    {
+        let depth = (self.depth as usize).min(Stack::PLACES);
+        &self.sections[..depth]
+    }
+
     // Whether a resource is held.
     pub fn any(self) -> bool
         ensures { result ≡ holds_any self }
@@ -35,25 +26,18 @@ impl Stack {
     pub fn holds(self, resource: u8) -> bool
         ensures { result ≡ holds resource self }
     {
-        for i in 0..Stack::PLACES {
-            let section = self.sections[i];
-            if is(i, self.depth, section, resource) {
-                return true;
-            }
-        }
-        false
+        self.in_use()
+            .iter()
+            .any(|section| resource == section.resource)
     }
 
     // A set of resources, with those that are held.
     pub fn join(self, set: u16) -> u16
         ensures { result ≡ with_held set self }
     {
-        let mut found = set;
-        for i in 0..Stack::PLACES {
-            let section = self.sections[i];
-            let next = with_place(i, self.depth, section, found);
-            found = next;
-        }
-        found
+        self.in_use().iter().fold(
+            set,
+            |found, section| sets::with(found, section.resource as usize),
+        )
     }
 }

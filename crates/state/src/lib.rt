@@ -145,17 +145,13 @@ impl Job {
     };
 }
 
-// Sixteen places without a job. The loop changes nothing, but its bound is not known beforehand: so the compiler keeps a state in one
+// Sixteen places without a job. The fill changes nothing, but its bound is not known beforehand: so the compiler keeps a state in one
 // piece, and does not carry its two hundred numbers one by one through every call.
 fn no_jobs(count: usize) -> [Job; 16]
     ensures { result ≡ listed (λ k. no_job) 16 }
 {
     let mut jobs = [Job::NONE; 16];
-    if count <= State::TASKS {
-        for k in 0..count {
-            jobs[k] = Job::NONE;
-        }
-    }
+    jobs[..count.min(State::TASKS)].fill(Job::NONE);
     jobs
 }
 

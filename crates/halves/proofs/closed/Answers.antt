@@ -2,7 +2,6 @@ use Prim.Native.Nat.{ℕ, ◌+◌, ◌≤◌}
 use mathlib.Core.Path.{◌≡◌, refl, sym, ap, ◌∙◌}
 use mathlib.Core.List.{List, map}
 use native.Mathlib.Nat.{le_trans, le_of_eq}
-use native.Mathlib.Omega.{arith}
 use lib.ListN.{length, get_or, set, length-set}
 use lib.Seq.{set_out}
 use Rattle.units.proofs.Laws.Folds.{long}
@@ -25,15 +24,15 @@ module _ (l : List Job) (h : length l ≡ 16) (p : ℕ) (j : Job) where
   whole : (m : List Job) (k : ℕ) → m ≡ set l p j → 16 ≤ k → part waited k m ≡ map waited (set l p j)
   whole m k e b = ap (part waited k) e ∙ part_all waited k _ (le_trans (le_of_eq (length-set l p j ∙ h)) b)
 
-pub loop-k-init : goal.loop-k-init
-loop-k-init c = (omega arith, refl)
+pub loop-next-init : goal.loop-next-init
+loop-next-init c = refl
 
-pub loop-k-preserved : goal.loop-k-preserved
-loop-k-preserved c = (omega arith, search again)
+pub loop-next-preserved : goal.loop-next-preserved
+loop-next-preserved c = again c.if-position-lt-TASKS.jobs c.loop-next.next-index c.waited.ensures c.loop-next.invariant
 
 pub returns : goal.returns
 returns c =
     let a = c.args in
     let h : length a.state.jobs ≡ 16 = search (rules, long) in
     let e : c.if-position-lt-TASKS.jobs ≡ set a.state.jobs a.position a.job = elim c.if-position-lt-TASKS.branch [ then-position-lt-TASKS w ↦ w.jobs-is | else-position-lt-TASKS w ↦ w.jobs-is ∙ unwritten a.state.jobs h a.position a.job w.if-position-lt-TASKS.false ] in
-    rw (c.after-tick.ensures, c.loop-k.invariant.1 ∙ whole a.state.jobs h a.position a.job _ _ e c.loop-k-test.false)
+    rw (c.after.ensures, c.loop-next.invariant ∙ whole a.state.jobs h a.position a.job _ _ e c.loop-next-test.false)

@@ -1,9 +1,12 @@
 -- No line is longer than the room that is asked for. Assumes nothing.
 use Rattle.std.specs.Prelude.{Some, None}
 use mathlib.Core.Bool.{Bool, true, false, cond}
-use mathlib.Core.List.{List, [], ◌∷◌}
-use Prim.Native.Nat.{ℕ, zero, suc, ◌+◌, ◌/◌, ◌%◌, ◌≤◌}
+use mathlib.Core.List.{List, [], ◌∷◌, ◌++◌}
+use Prim.Native.Nat.{ℕ, zero, suc, ◌+◌, ◌/◌, ◌%◌, ◌^◌, ◌≤◌, ◌<◌}
+use mathlib.Core.Path.{◌≡◌, refl, sym, ◌∙◌, ap}
 use native.Mathlib.Omega.{arith}
+use native.Mathlib.Decide.{dec_lt}
+use borrow.Author.Tests.{lt-ltb, le-ltb}
 use lib.Dec.{ltb}
 use lib.ListN.{length, length-append}
 use Rattle.state.specs.State.{Runner}
@@ -28,7 +31,39 @@ digits_le (suc most) n =
       digits_le most (n / 10),
     )
 
-decimal-le : (n : ℕ) → length (decimal n) ≤ 10
+-- with room for one digit more the digits are the same
+digits_more : (most n : ℕ) → n < 10 ^ suc most → digits (suc (suc most)) n ≡ digits (suc most) n
+unfolding digits
+digits_more zero n h = let s : n < 10 = omega arith in rw (lt-ltb n 10 s) refl
+digits_more (suc most) n h = go (dec_lt n 10) (λ l. digits_more most (n / 10) (omega arith))
+  where
+    go : Dec (n < 10) → (10 ≤ n → digits (suc (suc most)) (n / 10) ≡ digits (suc most) (n / 10))
+        → (cond (ltb n 10) [] (digits (suc (suc most)) (n / 10)) ++ ((48 + n % 10) ∷ [])) ≡ (cond (ltb n 10) [] (digits (suc most) (n / 10)) ++ ((48 + n % 10) ∷ []))
+    go (yes s) f = rw (lt-ltb n 10 s) refl
+    go (no s) f = rw (f (omega arith)) refl
+
+pub decimal_digit : (n : ℕ) → n < 10 → decimal n ≡ (48 + n % 10) ∷ []
+unfolding decimal digits
+decimal_digit n s = rw (lt-ltb n 10 s) refl
+
+digits_next : (most n : ℕ) → 10 ≤ n → digits (suc most) n ≡ digits most (n / 10) ++ ((48 + n % 10) ∷ [])
+unfolding digits
+digits_next most n big = rw (le-ltb n 10 big) refl
+
+-- a number of 32 bits that has more than one digit
+module _ (n : ℕ) (big : 10 ≤ n) (fits : n < 2 ^ 32) where
+  shorter : decimal (n / 10) ≡ digits 9 (n / 10)
+  unfolding decimal
+  shorter = digits_more 8 (n / 10) (omega arith)
+
+  pub decimal_more : decimal n ≡ decimal (n / 10) ++ ((48 + n % 10) ∷ [])
+  unfolding decimal
+  decimal_more = digits_next 9 n big ∙ ap (λ (xs : List ℕ). xs ++ ((48 + n % 10) ∷ [])) (sym shorter)
+
+  pub decimal_front : length (decimal (n / 10)) ≤ 9
+  decimal_front = rw shorter (digits_le 9 (n / 10))
+
+pub decimal-le : (n : ℕ) → length (decimal n) ≤ 10
 unfolding decimal
 decimal-le n = digits_le 10 n
 

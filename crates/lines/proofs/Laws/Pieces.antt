@@ -1,14 +1,13 @@
 -- One piece after another. Assumes nothing.
 use mathlib.Core.Path.{◌≡◌, refl, sym, ◌∙◌}
-use mathlib.Core.List.{List, [], ◌∷◌, ◌++◌}
-use Prim.Native.Nat.{ℕ, zero, suc, ◌+◌, ◌-◌, ◌/◌, ◌%◌, ◌≤◌, ◌<◌}
+use mathlib.Core.List.{List, [], ◌∷◌, ◌++◌, append_assoc}
+use Prim.Native.Nat.{ℕ, suc, ◌+◌, ◌-◌, ◌≤◌}
 use native.Mathlib.Omega.{arith}
-use native.Mathlib.Numerals.{add-one}
-use lib.ListN.{length, take, get_or, set, length-append}
-use lib.Seq.{sets, take-suc, length-take-le}
-use borrow.Author.Tests.{lt-ltb, le-ltb}
-use Rattle.lines.specs.Lines.{digits}
-use Rattle.lines.specs.Writing.{Put}
+use lib.ListN.{length, take, drop, set, length-append}
+use lib.Seq.{sets, sets-eq, drop-drop}
+use borrow.Rule.Slice.PartMut.{put_mid}
+use Rattle.lines.specs.declared.pieces.Part.{Part}
+use Rattle.lines.specs.Writing.{Put, Wrote}
 
 sets_append : (l : List ℕ) (i : ℕ) (xs ys : List ℕ) → sets l i (xs ++ ys) ≡ sets (sets l i xs) (i + length xs) ys
 sets_append l i [] ys = let e : i + 0 ≡ i = omega arith in rw e refl
@@ -19,25 +18,14 @@ pub put_more : {l m n : List ℕ} {i j k : ℕ} {xs ys : List ℕ} → Put l i x
 put_more {l} {m} {n} {i} {j} {k} {xs} {ys} p q =
     record { holds = q.holds ∙ rw (p.holds, p.next) (sym (sets_append l i xs ys)); next = omega (arith, length-append xs ys, p.next, q.next) }
 
-pub put_as : {l m xs ys : List ℕ} {i j : ℕ} → Put l i xs j m → xs ≡ ys → Put l i ys j m
-put_as p e = rw e at p
+-- a word stored at once
+pub put_word : (out word m : List ℕ) (at : ℕ) → at + length word ≤ length out → m ≡ word → put_mid at (at + length word - at) out m ≡ sets out at word
+put_word out word m at h is =
+    let k : at + length word - at ≡ length word = omega arith in
+    rw (is, k, sets-eq word out at h, drop-drop (length word) at out) (sym (append_assoc (take at out) word (drop (at + length word) out)))
 
--- a word of which one byte more is stored
-pub sets_next : (l : List ℕ) (start : ℕ) (word : List ℕ) (i : ℕ)
-    → i < length word → set (sets l start (take i word)) (start + i) (get_or word i 0) ≡ sets l start (take (i + 1) word)
-sets_next l start word i h =
-    let n : length (take i word) ≡ i = length-take-le i word (omega arith) in
-    sym (rw (add-one i, take-suc word i 0 h, sets_append l start (take i word) (get_or word i 0 ∷ []), n) refl)
+pub wrote_more : {a b c : Part} {xs ys : List ℕ} → Wrote a b xs → Wrote b c ys → Wrote a c (xs ++ ys)
+wrote_more p q = record { put = put_more p.put q.put; long = q.long ∙ p.long; same_part = q.same_part ∙ p.same_part }
 
--- the first digit, and one that follows others
-pub put_first : {l m : List ℕ} {i j : ℕ} (n most : ℕ) → (most ≡ 0 → ⊥) → n < 10 → Put l i ((48 + n % 10) ∷ []) j m → Put l i (digits most n) j m
-unfolding digits
-put_first n zero z h p = absurd (z refl)
-put_first n (suc most) z h p = rw (lt-ltb n 10 h) p
-
-pub put_next : {l m o : List ℕ} {i j k : ℕ} (n most : ℕ) → (most ≡ 0 → ⊥) → 10 ≤ n
-    → Put l i (digits (most - 1) (n / 10)) j m → Put m j ((48 + n % 10) ∷ []) k o → Put l i (digits most n) k o
-unfolding digits
-put_next n zero z h p q = absurd (z refl)
-put_next n (suc most) z h p q =
-    let e : suc most - 1 ≡ most = omega arith in rw (le-ltb n 10 h) (put_more (rw e at p) q)
+pub wrote_as : {a b : Part} {xs ys : List ℕ} → Wrote a b xs → xs ≡ ys → Wrote a b ys
+wrote_as p e = rw e at p

@@ -7,8 +7,9 @@ use lib.ListN.{length}
 use lib.Seq.{sets-eq}
 use borrow.Author.Tests.{le-leb, lt-leb}
 use Rattle.lines.specs.declared.Line.{Line}
+use Rattle.lines.specs.declared.pieces.Part.{Part}
 use Rattle.lines.specs.Lines.{text, laid, leaves, answers}
-use Rattle.lines.specs.Writing.{Put}
+use Rattle.lines.specs.Writing.{Put, Wrote}
 use Rattle.lines.proofs.Laws.Lengths.{text-le}
 
 -- what a write leaves and answers, and the same where there is room
@@ -32,3 +33,9 @@ put_written l line h p =
     let z : 0 + length (text line) ≡ length (text line) = omega arith in
     let f : 0 + length (text line) ≤ length l = omega (arith, text-le line) in
     laid-written 64 l (text line) h (p.holds ∙ sets-eq (text line) l 0 f ∙ rw z, p.next ∙ z)
+
+-- a line that was written through a part, whose bytes are those that were lent
+pub line_written : {m l : List ℕ} {a b part : Part} {self line : Line}
+    → 64 ≤ length l → m ≡ part.out.now → part ≡ b → self ≡ line → Wrote a b (text line) → a.out.now ≡ l → a.at ≡ 0 → Written 64 l (text self) part.at m
+line_written {m} {l} {b = b} {line = line} h back is kind w lent start =
+    rw (kind, is) (put_written l line h (record { holds = rw is at back ∙ rw (lent, start) at w.put.holds; next = rw start at w.put.next }))

@@ -29,18 +29,14 @@ module _ (file : List ℕ) (t : Table) (s : State) where
 abbrev pub Paged : List ℕ → List ℕ → Table → State → ℕ → List ℕ → ℕ → State → Type 0
 Paged l₀ file t s k l end now = (end ≤ 64 * k) × (now ≡ (page file t s k).state) × Begins l₀ (page file t s k).text l end
 
--- what one line more leaves: room for it, and the lines of one event more
-pub record Followed (l₀ file : List ℕ) (t : Table) (s : State) (k : ℕ) (l : List ℕ) (end : ℕ) (x : Step) (r : ℕ) (m : List ℕ) : Type 0 where
-  pub fits : end + r ≤ length l
-  pub paged : Paged l₀ file t s (k + 1) (back_at l end m) (end + r) x.state
-
-pub followed : {s now : State} {first : ℕ} {e : Event} {x : Step} {r : ℕ} {m : List ℕ} (l₀ file : List ℕ) (t : Table) (k : ℕ) (l : List ℕ) (end count : ℕ)
+-- one line more
+pub followed : {now : State} {first : ℕ} {e : Event} {x : Step} {r : ℕ} {m : List ℕ} (l₀ file : List ℕ) (t : Table) (s : State) (k : ℕ) (l : List ℕ) (end count : ℕ)
     → 64 * event_count file ≤ length l₀ → count ≡ event_count file → k < count → Paged l₀ file t s k l end now
     → first ≡ first_event file → e ≡ event file (first + k) → x ≡ step t now e
-    → Written 64 (lent_from l end) (text x.line) r m → Followed l₀ file t s k l end x r m
+    → Written 64 (lent_from l end) (text x.line) r m → Paged l₀ file t s (k + 1) (back_at l end m) (end + r) x.state
 unfolding page more
-followed {s} {x = x} {r} {m} l₀ file t k l end count all counted test pages from said is w =
-    record { fits = fits; paged = (omega (arith, wrote, le), rw (next, same) refl, rw (next, ← same) filled) }
+followed {x = x} {r} {m} l₀ file t s k l end count all counted test pages from said is w =
+    (omega (arith, wrote, le), rw (next, same) refl, rw (next, ← same) filled)
   where
     next : page file t s (k + 1) ≡ more file t k (page file t s k)
     next = over-more (λ j. true) (more file t) (record { text = []; state = s }) k
@@ -57,8 +53,8 @@ followed {s} {x = x} {r} {m} l₀ file t k l end count all counted test pages fr
     le : length (text x.line) ≤ 64
     le = text-le x.line
 
-    fits : end + r ≤ length l
-    fits = omega (arith, lent_length l end, room, wrote, le)
+    fits : end + length (text x.line) ≤ length l
+    fits = omega (arith, lent_length l end, room, le)
 
     filled : Begins l₀ ((page file t s k).text ++ text x.line) (back_at l end m) (end + r)
-    filled = begins_more l₀ (page file t s k).text l end (text x.line) pages.2 (omega (arith, fits, wrote)) wrote
+    filled = begins_more l₀ (page file t s k).text l end (text x.line) pages.2 fits wrote

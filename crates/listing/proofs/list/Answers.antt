@@ -8,15 +8,12 @@ use Rattle.listing.proofs.list.Goals as goal
 
 pub returns-then-out-lt-ROOM : goal.returns-then-out-lt-ROOM
 returns-then-out-lt-ROOM c =
-    let a = c.args in
-    let w = listed-whole a.out.now a.file.now (unwritten 131072 a.out.now (listing a.file.now) c.if-out-lt-ROOM.true) in
-    record { out_after = w.0; upper_bound = w.1 }
+    let a = c.args in listed-whole a.out.now a.file.now (unwritten 131072 a.out.now (listing a.file.now) c.if-out-lt-ROOM.true)
 
 pub returns-then-not-well_formed : goal.returns-then-not-well_formed
 returns-then-not-well_formed c =
     let a = c.args in
-    let w = listed_malformed a.out.now a.file.now (omega arith) (tested c.well_formed-2.ensures c.if-not-well_formed.true) c.write.ensures in
-    record { out_after = w.0; upper_bound = w.1 }
+    listed_malformed a.out.now a.file.now (omega arith) (tested c.well_formed-2.ensures c.if-not-well_formed.true) c.write.ensures
 
 pub write_listed-requires : goal.write_listed-requires
 write_listed-requires c = omega (arith, lines_within _ (tested c.well_formed-2.ensures c.if-not-well_formed.false))
@@ -24,5 +21,4 @@ write_listed-requires c = omega (arith, lines_within _ (tested c.well_formed-2.e
 pub returns : goal.returns
 returns c =
     let a = c.args in
-    let w = listed_well_formed a.out.now a.file.now (omega arith) (tested c.well_formed-2.ensures c.if-not-well_formed.false) c.write_listed.ensures in
-    record { out_after = w.0; upper_bound = w.1 }
+    listed_well_formed a.out.now a.file.now (omega arith) (tested c.well_formed-2.ensures c.if-not-well_formed.false) c.write_listed.ensures

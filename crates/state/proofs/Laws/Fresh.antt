@@ -1,18 +1,18 @@
 -- A fresh start. Assumes nothing.
 use Rattle.std.specs.Prelude.{None}
-use Prim.Native.Nat.{ℕ, ◌<◌}
-use mathlib.Core.Path.{◌≡◌, refl, sym, ap, ◌∙◌}
+use Prim.Native.Nat.{ℕ, ◌+◌, ◌-◌, ◌<◌, ◌≤◌}
+use mathlib.Core.Path.{◌≡◌, refl, sym, ◌∙◌}
 use mathlib.Core.Bool.{cond}
-use mathlib.Core.List.{List}
+use mathlib.Core.List.{List, ◌++◌}
 use native.Mathlib.Decide.{dec_lt}
 use native.Mathlib.Omega.{arith}
-use lib.ListN.{length, set, get_or-eq_default}
-use lib.Seq.{set-get_or}
+use lib.ListN.{length, take, drop, replicate, get_or-eq_default}
+use Rattle.std.proofs.lemmas.List.{length-take, length-replicate, drop-replicate, replicate-append-replicate}
 use lib.Dec.{eqb}
 use borrow.Author.Tests.{eq-eqb, ne_eqb}
 use Rattle.units.specs.declared.Tick.{Tick}
 use Rattle.units.specs.Clock.{tick}
-use Rattle.units.specs.Folds.{listed}
+use Rattle.units.specs.Folds.{over, listed}
 use Rattle.units.proofs.Laws.Folds.{listed_at, listed-length}
 use Rattle.units.proofs.Laws.Tests.{cond_yes, cond_no}
 use Rattle.verdict.specs.Verdict.{Verdict, answer}
@@ -29,11 +29,13 @@ use Rattle.state.specs.State.{no_job, job_at, empty, passes, fresh}
 pub no_more : (s : State) (k : ℕ) → length s.jobs ≡ 16 → (k < 16 → ⊥) → job_at s k ≡ no_job
 no_more s k e h = get_or-eq_default s.jobs no_job (omega (arith, h))
 
--- sixteen places without a job, one of them emptied again
-pub none_again : {l : List Job} {k : ℕ} → l ≡ listed (λ k. no_job) 16 → k < 16 → set l k no_job ≡ listed (λ k. no_job) 16
-none_again {l} {k} e b =
-    let none = listed (λ (k : ℕ). no_job) 16 in
-    ap (λ (l : List Job). set l k no_job) e ∙ ap (set none k) (sym (listed_at no_job (λ k. no_job) 16 k b)) ∙ set-get_or none k no_job
+-- sixteen places without a job, the first of them emptied again
+pub none_again : (n : ℕ) {l m : List Job} → n ≤ 16 → m ≡ replicate 16 no_job → l ≡ replicate (length (take n m)) no_job → l ++ drop n m ≡ listed (λ k. no_job) 16
+unfolding listed over
+none_again n b e f =
+    let first : length (take n (replicate 16 no_job)) ≡ n = omega (arith, length-take n (replicate 16 no_job), length-replicate 16 no_job) in
+    let whole : n + (16 - n) ≡ 16 = omega (arith, b) in
+    rw (f, e, first, drop-replicate n 16 no_job, replicate-append-replicate n (16 - n) no_job, whole) refl
 
 -- "no jobs, no waits, no mark"
 module _ (now : Tick) where

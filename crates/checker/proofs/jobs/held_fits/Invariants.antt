@@ -1,4 +1,4 @@
-use Prim.Native.Nat.{ℕ, ◌≤◌, ◌<◌}
+use Prim.Native.Nat.{ℕ, ◌<◌}
 use mathlib.Core.Path.{◌≡◌}
 use mathlib.Core.Bool.{true}
 use Rattle.table.specs.declared.Task.{Task}
@@ -7,9 +7,8 @@ use Rattle.consistency.specs.Consistency.{section_fits}
 use Rattle.checker.proofs.jobs.held_fits.Given as goal
 
 -- the sections below i fit
-pub record Fit (task : Task) (h : Stack) (i : ℕ) : Type 0 where
-  pub within : i ≤ 4
-  pub fit : (k : ℕ) → k < i → section_fits task h k ≡ true
+abbrev pub Fit : Task → Stack → ℕ → Type 0
+Fit task h i = (k : ℕ) → k < i → section_fits task h k ≡ true
 
 abbrev pub invariant-loop-i : goal.invariant-loop-i
-invariant-loop-i l = Fit l.task l.held l.i
+invariant-loop-i l = Fit l.task l.fn.held l.i

@@ -1,41 +1,66 @@
-use Prim.Native.Nat.{ℕ, ◌+◌, ◌≤◌, ◌<◌}
-use mathlib.Core.Path.{◌≡◌, refl, sym, ap, ◌∙◌}
-use mathlib.Core.Bool.{Bool, true, false, not}
-use native.Mathlib.Omega.{arith}
+use Rattle.std.proofs.Common.{rules, arith, ◌≡◌, ◌∙◌, ℕ, ◌+◌, ◌-◌, ◌<◌, ◌≤◌, ◌||◌, Bool, true, false, List, ltb, length, get_or, drop, take, refl, sym, ap, le-ltb, lt-ltb}
+use borrow.Author.Tests as borrowed
 use borrow.Author.Tests.{le-leb}
-use Rattle.units.specs.Folds.{over, all}
-use Rattle.units.proofs.Laws.Folds.{all-next, all_fails}
-use Rattle.units.proofs.Laws.Tests.{tests, passed, failed, and_rest}
+use mathlib.Core.Bool.{false≢true}
+use native.Mathlib.Decide.{dec_lt}
+use Rattle.std.specs.List.{list_all}
+use Rattle.std.proofs.lemmas.Iterator.{YieldsList-from_slice}
+use Rattle.std.proofs.lemmas.Iterator.Search.{all_from_yields_List}
+use Rattle.std.proofs.lemmas.List.{get_or-drop, get_or_default, length-drop, take_all}
+use Rattle.std.proofs.lemmas.List.Sums.{AllPass-from_list_all, list_all-from_AllPass}
+use Rattle.units.specs.Folds.{all}
+use Rattle.units.proofs.Laws.Folds.{long, all_tells, all-holds}
+use Rattle.units.proofs.Laws.Tests.{tests, and_rest}
+use Rattle.state.specs.declared.Section.{Section}
 use Rattle.state.specs.declared.Stack.{Stack}
-use Rattle.consistency.specs.Consistency.{stack_fits}
-use Rattle.checker.proofs.jobs.stack_fits.Invariants.{place_fits, Fit}
+use Rattle.state.specs.Stack.{no_section, section_at}
+use Rattle.consistency.specs.Consistency.{is_none, stack_fits}
 use Rattle.checker.proofs.jobs.stack_fits.Goals as goal
 
-module _ {h : Stack} {i : ℕ} {b : Bool} (e : b ≡ place_fits h i) where
-  next : not b ≡ false → i < 4 → Fit h i → Fit h (i + 1)
-  next t l f = record { depth = f.depth; within = omega arith; fit = sym (all-next (place_fits h) i (sym f.fit) (sym (passed e t))) }
+-- the places above the depth
+module _ (h : Stack) (low : h.depth ≤ 4) (four : length h.sections ≡ 4) where
+  abbrev rest : List Section
+  rest = drop h.depth h.sections
 
-  unfit : not b ≡ true → i < 4 → Fit h i → false ≡ stack_fits h
+  abbrev place : ℕ → Bool
+  place i = ltb i h.depth || is_none (section_at h i)
+
+  long_rest : length rest ≡ 4 - h.depth
+  long_rest = omega (arith, length-drop h.depth h.sections, four)
+
+  rest_at : (k : ℕ) (d : Section) → k < length rest → get_or rest k d ≡ section_at h (h.depth + k)
+  rest_at k d l = get_or_default rest k d no_section l ∙ get_or-drop h.depth h.sections k no_section
+
+  spare : list_all is_none rest ≡ all place 4
+  spare = go (list_all is_none rest) refl (all place 4) refl
+    where
+      each : list_all is_none rest ≡ true → (k : ℕ) → k < 4 → Dec (k < h.depth) → place k ≡ true
+      each e k b (yes l) = ap (λ (a : Bool). a || is_none (section_at h k)) (lt-ltb _ _ l)
+      each e k b (no l) =
+          let at : h.depth + (k - h.depth) ≡ k = omega (arith, l) in
+          ap (λ (a : Bool). a || is_none (section_at h k)) (le-ltb k h.depth (omega (arith, l)))
+          ∙ ap (λ (i : ℕ). is_none (section_at h i)) (sym at) ∙ ap is_none (sym (rest_at (k - h.depth) no_section (omega (arith, long_rest, b, l))))
+          ∙ AllPass-from_list_all is_none rest e (k - h.depth) no_section (omega (arith, long_rest, b, l))
+
+      back : all place 4 ≡ true → list_all is_none rest ≡ true
+      back f = list_all-from_AllPass is_none rest (λ k d l.
+          ap is_none (rest_at k d l) ∙ sym (ap (λ (a : Bool). a || is_none (section_at h (h.depth + k))) (le-ltb (h.depth + k) h.depth (omega arith)))
+          ∙ all_tells place 4 f (h.depth + k) (omega (arith, long_rest, l)))
+
+      go : (a : Bool) → list_all is_none rest ≡ a → (b : Bool) → all place 4 ≡ b → list_all is_none rest ≡ all place 4
+      go true e b f = e ∙ sym (all-holds place 4 (λ k l. each e k l (dec_lt k h.depth)))
+      go false e false f = e ∙ sym f
+      go false e true f = absurd (false≢true (sym e ∙ back f))
+
+  tested : {b : Bool} → b ≡ list_all is_none (take (4 - h.depth) rest) → b ≡ stack_fits h
   unfolding stack_fits
-  unfit t l f = and_rest _ _ _ (le-leb _ _ f.depth) (sym (all_fails (place_fits h) 4 i l (failed e t)))
+  tested e = and_rest _ _ _ (le-leb _ _ low) (e ∙ ap (list_all is_none) (take_all (4 - h.depth) rest (omega (arith, long_rest))) ∙ spare)
 
-full : {h : Stack} {i : ℕ} → Fit h i → 4 ≤ i → true ≡ stack_fits h
+pub returns-then-depth-gt-PLACES : goal.returns-then-depth-gt-PLACES
 unfolding stack_fits
-full {h} {i} f l = and_rest _ _ _ (le-leb _ _ f.depth) (sym f.fit ∙ ap (all (place_fits h)) (omega (arith, l, f.within)))
-
-pub returns-then-held-gt-PLACES : goal.returns-then-held-gt-PLACES
-unfolding stack_fits
-returns-then-held-gt-PLACES c = search tests
-
-pub loop-i-init : goal.loop-i-init
-unfolding all over
-loop-i-init c = record { depth = search; within = omega arith; fit = refl }
-
-pub returns-then-not-place_fits : goal.returns-then-not-place_fits
-returns-then-not-place_fits c = search unfit
-
-pub loop-i-preserved : goal.loop-i-preserved
-loop-i-preserved c = search next
+returns-then-depth-gt-PLACES c = search tests
 
 pub returns : goal.returns
-returns c = search full
+returns c =
+    let h = c.args.held in
+    tested h c.if-depth-gt-PLACES.false (search (rules, long)) (all_from_yields_List is_none _ _ _ c.all.ensures.ran (YieldsList-from_slice (take (4 - h.depth) (drop h.depth h.sections)) (search rules)) (λ x b q k. search (rules, borrowed.tests)))

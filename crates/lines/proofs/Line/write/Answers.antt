@@ -1,21 +1,15 @@
-use mathlib.Core.Path.{sym, ap}
+use mathlib.Core.Path.{refl}
+use borrow.Author.Rules.{rules}
 use native.Mathlib.Omega.{arith}
-use Rattle.lines.specs.Lines.{text}
-use Rattle.lines.proofs.Laws.Pieces.{put_as}
-use Rattle.lines.proofs.Laws.Whole.{put_written, unwritten}
+use Rattle.lines.proofs.Laws.Whole.{line_written}
 use Rattle.lines.proofs.Line.write.Goals as goal
+use Rattle.lines.proofs.Line.write.Goals.{in-Table, in-Release, in-Run, in-Refused}
 
-pub returns-then-out-lt-ROOM : goal.returns-then-out-lt-ROOM
-returns-then-out-lt-ROOM c = unwritten 64 _ (text c.args.self) c.if-out-lt-ROOM.true
-
-pub returns-in-Table : goal.returns-in-Table
-returns-in-Table c = put_written _ _ (omega arith) (put_as c.table.ensures (sym (ap text c.in-Table.is)))
-
-pub returns-in-Release : goal.returns-in-Release
-returns-in-Release c = put_written _ _ (omega arith) (put_as c.release.ensures (sym (ap text c.in-Release.is)))
-
-pub returns-in-Run : goal.returns-in-Run
-returns-in-Run c = put_written _ _ (omega arith) (put_as c.run.ensures (sym (ap text c.in-Run.is)))
-
-pub returns-in-Refused : goal.returns-in-Refused
-returns-in-Refused c = put_written _ _ (omega arith) (put_as c.refused.ensures (sym (ap text c.in-Refused.is)))
+pub returns : goal.returns
+returns c =
+    elim c.match-self.branch [
+      | in-Table w ↦ line_written (omega arith) (search rules) w.part-is w.in-Table.is w.table.ensures refl refl
+      | in-Release w ↦ line_written (omega arith) (search rules) w.part-is w.in-Release.is w.release.ensures refl refl
+      | in-Run w ↦ line_written (omega arith) (search rules) w.part-is w.in-Run.is w.run.ensures refl refl
+      | in-Refused w ↦ line_written (omega arith) (search rules) w.part-is w.in-Refused.is w.refused.ensures refl refl
+    ]

@@ -4,7 +4,6 @@ use mathlib.Core.List.{List}
 use native.Mathlib.Omega.{arith}
 use lib.ListN.{length, get_or}
 use lib.Seq.{get_or-set_same, set-get_or}
-use Rattle.units.proofs.Laws.Folds.{long}
 use Rattle.state.specs.declared.Job.{Job}
 use Rattle.state.specs.declared.State.{State}
 use Rattle.state.specs.State.{no_job, job_at}
@@ -17,4 +16,4 @@ read-within : (s : State) (k : ℕ) → k < 16 → length s.jobs ≡ 16 → read
 read-within s k l h = sym (get_or-set_same s.jobs k (read_at s k) no_job (omega arith)) ∙ ap (λ (m : List Job). get_or m k no_job) (set-get_or s.jobs k past_job)
 
 pub returns : goal.returns
-returns c = search (rules, long, read-within)
+returns c = search (rules, read-within)

@@ -3,4 +3,4 @@ use Rattle.machine.proofs.parts.released.Goals as goal
 
 pub returns : goal.returns
 unfolding listed over
-returns c = rw c.after-deadline.ensures
+returns c = rw c.after.ensures

@@ -1,24 +1,14 @@
-use mathlib.Core.Path.{◌≡◌, refl, sym, ◌∙◌}
-use native.Mathlib.Omega.{arith}
-use borrow.Author.Tests.{eq-eqb, ne_eqb}
-use Rattle.units.specs.Folds.{all, over}
-use Rattle.units.proofs.Laws.Folds.{all-next, all_fails}
+use Rattle.std.proofs.Common.{◌==◌, rules, ◌-◌, ◌∙◌, get_or}
+use Rattle.std.proofs.lemmas.Iterator.{YieldsList-from_range}
+use Rattle.std.proofs.lemmas.Iterator.Search.{all_from_yields_List}
+use borrow.Author.Tests.{tests}
 use Rattle.records.specs.Bytes.{zeros}
+use Rattle.records.proofs.Laws.Lists.{all_between}
 use Rattle.records.proofs.bytes.zeros.Goals as goal
 
-pub loop-k-init : goal.loop-k-init
-unfolding zeros all over
-loop-k-init c = (omega arith, refl)
-
-pub returns-then-byte-ne0 : goal.returns-then-byte-ne0
-unfolding zeros
-returns-then-byte-ne0 c = sym (all_fails _ _ c.loop-k.k (omega arith) (ne_eqb _ _ (λ e. c.if-byte-ne0.true (c.byte.ensures ∙ e))))
-
-pub loop-k-preserved : goal.loop-k-preserved
-unfolding zeros
-loop-k-preserved c =
-    let l = c.loop-k in
-    (omega arith, sym (all-next _ l.k (sym l.invariant.1) (sym (eq-eqb _ _ (sym c.byte.ensures ∙ c.if-byte-ne0.false)))))
-
 pub returns : goal.returns
-returns c = let e : c.loop-k.k ≡ c.args.n = omega arith in sym (rw e at c.loop-k.invariant.1)
+unfolding zeros
+returns c =
+    let p = c.args.places in
+    all_from_yields_List (λ i. get_or c.args.bytes.now i 0 == 0) _ _ _ c.all.ensures.ran (YieldsList-from_range p.start p.end (p.end - p.start) (search rules) (search rules)) (λ x b q k. search (rules, tests))
+    ∙ all_between _ p.start (p.end - p.start)

@@ -1,16 +1,9 @@
-use Rattle.units.specs.Folds.{listed, over}
+use Rattle.std.proofs.Common.{◌+◌, ◌*◌, rules}
+use borrow.Author.Tests.{tests}
+use Rattle.units.specs.Amounts.{steps}
+use Rattle.records.specs.Bytes.{word}
+use Rattle.records.proofs.Laws.Lists.{listed_by}
 use Rattle.records.proofs.contents.limits.Goals as goal
 
 pub returns : goal.returns
-unfolding listed over
-returns c =
-    rw (
-      c.word.ensures,
-      c.word-2.ensures,
-      c.word-3.ensures,
-      c.word-4.ensures,
-      c.word-5.ensures,
-      c.word-6.ensures,
-      c.word-7.ensures,
-      c.word-8.ensures,
-    )
+returns c = listed_by _ (λ k. steps (word c.args.bytes.now (16 + k * 2))) (steps 0) (λ i y q k. search (rules, tests)) c.from_fn.ensures.items

@@ -1,5 +1,7 @@
-use Rattle.state.proofs.Laws.Stacks.{stacked_four}
+use Rattle.std.proofs.Common.{rules}
+use Rattle.units.proofs.Laws.Folds.{long}
+use Rattle.reporter.proofs.Laws.{stack_emptied}
 use Rattle.reporter.proofs.sections.stacked.Goals as goal
 
 pub returns : goal.returns
-returns c = stacked_four _ _ c.kept-first.ensures c.kept-second.ensures c.kept-third.ensures c.kept-fourth.ensures
+returns c = stack_emptied c.args.sections c.min.result c.args.depth (search (rules, long)) c.min.ensures (c.fill.ensures.after (λ y e. search rules))

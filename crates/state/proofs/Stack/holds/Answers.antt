@@ -1,19 +1,12 @@
-use mathlib.Core.Path.{refl}
-use native.Mathlib.Omega.{arith}
-use Rattle.units.specs.Folds.{over, some}
-use Rattle.units.proofs.Laws.Loops.{none_yet}
-use Rattle.state.proofs.Laws.Stacks.{on_found, on_ended}
+use Rattle.std.proofs.Common.{rules, ◌∙◌, eqb}
+use borrow.Author.Tests.{tests}
+use Rattle.std.proofs.lemmas.Iterator.{YieldsList-from_slice}
+use Rattle.std.proofs.lemmas.Iterator.Search.{any_from_yields_List}
+use Rattle.state.specs.Stack.{in_use}
+use Rattle.state.proofs.Laws.Stacks.{any_in_use}
 use Rattle.state.proofs.Stack.holds.Goals as goal
 
-pub loop-i-init : goal.loop-i-init
-unfolding some over
-loop-i-init c = (omega arith, refl)
-
-pub returns-then-is : goal.returns-then-is
-returns-then-is c = search on_found
-
-pub loop-i-preserved : goal.loop-i-preserved
-loop-i-preserved c = (omega arith, search none_yet)
-
 pub returns : goal.returns
-returns c = search on_ended
+returns c =
+    any_from_yields_List (λ x. eqb c.args.resource x.resource) _ _ _ c.any.ensures.ran (YieldsList-from_slice (in_use c.args.self) (search rules)) (λ x b q k. search (rules, tests))
+    ∙ any_in_use c.args.self _
