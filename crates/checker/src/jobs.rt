@@ -92,9 +92,9 @@ fn stack_fits(held: Stack) -> bool
     if Stack::PLACES < depth {
         return false;
     }
-    held.sections[depth..]
-        .iter()
-        .all(|section| section.resource == 0 && section.steps.0 == 0)
+    held.sections.iter().enumerate().all(|(i, section)| {
+        i < depth || (section.resource == 0 && section.steps.0 == 0)
+    })
 }
 
 fn is_unused(job: Job) -> bool

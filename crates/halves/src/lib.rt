@@ -3,7 +3,7 @@
 
 ghost use Rattle.std.specs.Prelude.{◌≡◌, set};
 ghost use Rattle.choice.specs.Choice.{in_mid_tick};
-ghost use Rattle.report.specs.Report.{waited, closed};
+ghost use Rattle.report.specs.Report.{closed};
 ghost use Rattle.seen.specs.Seen.{runner_position, late_by};
 
 use choice::Turn;
@@ -40,15 +40,6 @@ pub fn in_mid_tick(state: State, turn: Turn) -> State
     }
 }
 
-fn waited(job: Job) -> Job
-    ensures { result ≡ waited job }
-{
-    Job {
-        wait: Ticks(job.wait.0.saturating_sub(1)),
-        ..job
-    }
-}
-
 // The state a tick later, with the job at a position as its report left it; there is none at a position above 15.
 pub fn closed(state: State, position: usize, job: Job) -> State
     ensures { result ≡ closed state (set state.jobs position job) }
@@ -58,7 +49,7 @@ pub fn closed(state: State, position: usize, job: Job) -> State
         jobs[position] = job;
     }
     for next in &mut jobs {
-        *next = waited(*next);
+        next.wait = Ticks(next.wait.0.saturating_sub(1));
     }
     State {
         tick: state.tick.after(Ticks(1)),

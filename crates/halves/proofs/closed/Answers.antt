@@ -28,7 +28,7 @@ pub loop-next-init : goal.loop-next-init
 loop-next-init c = refl
 
 pub loop-next-preserved : goal.loop-next-preserved
-loop-next-preserved c = again c.if-position-lt-TASKS.jobs c.loop-next.next-index c.waited.ensures c.loop-next.invariant
+loop-next-preserved c = again c.if-position-lt-TASKS.jobs c.loop-next.next-index (rw c.saturating_sub.ensures) c.loop-next.invariant
 
 pub returns : goal.returns
 returns c =
