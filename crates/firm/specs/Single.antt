@@ -28,6 +28,12 @@ Single T P =
     (κs : Lfts T.signature.lifetimes) (a : Args T.signature κs) (r s : Res T.signature κs) (v w : Lasts T κs a)
     → P κs a r (at_exit T κs a v) → P κs a s (at_exit T κs a w) → (r ≡ s) × (at_exit T κs a v ≡ at_exit T κs a w)
 
+-- The same of a function that lends what it answers: what is lent is one. Where it stands no contract says.
+abbrev pub SingleLent : (T : Ended) {A : Type 0} → ((κs : Lfts T.signature.lifetimes) → Res T.signature κs → A) → Promised T → Type 0
+SingleLent T lent P =
+    (κs : Lfts T.signature.lifetimes) (a : Args T.signature κs) (r s : Res T.signature κs) (v w : Lasts T κs a)
+    → P κs a r (at_exit T κs a v) → P κs a s (at_exit T κs a w) → (lent κs r ≡ lent κs s) × (at_exit T κs a v ≡ at_exit T κs a w)
+
 -- Every public function; `Learnt` is its contract, as the prover reads it and as its callers are handed it.
 pub record Singleness : Type 0 where
   pub given : Single Units.specs.contracts.Steps.given.ended Units.proofs.Steps.given.Reads.Learnt
@@ -48,7 +54,7 @@ pub record Singleness : Type 0 where
   pub refusal_number : Single State.specs.contracts.Refusal.number.ended State.proofs.Refusal.number.Reads.Learnt
   pub ending_number : Single State.specs.contracts.Ending.number.ended State.proofs.Ending.number.Reads.Learnt
   pub bare : Single State.specs.contracts.Success.bare.ended State.proofs.Success.bare.Reads.Learnt
-  pub in_use : Single State.specs.contracts.Stack.in_use.ended State.proofs.Stack.in_use.Reads.Learnt
+  pub in_use : SingleLent State.specs.contracts.Stack.in_use.ended (λ κs r. r.now) State.proofs.Stack.in_use.Reads.Learnt
   pub any : Single State.specs.contracts.Stack.any.ended State.proofs.Stack.any.Reads.Learnt
   pub holds : Single State.specs.contracts.Stack.holds.ended State.proofs.Stack.holds.Reads.Learnt
   pub join : Single State.specs.contracts.Stack.join.ended State.proofs.Stack.join.Reads.Learnt
