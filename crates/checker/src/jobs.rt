@@ -85,16 +85,16 @@ fn job_fits(task: Task, now: Tick, job: Job) -> bool
 }
 
 // What is not in use is 0.
-fn stack_fits(held: Stack) -> bool
-    ensures { result ≡ stack_fits held }
+fn stack_fits(held: &Stack) -> bool
+    ensures { result ≡ stack_fits held.now }
 {
     let depth = held.depth as usize;
     if Stack::PLACES < depth {
         return false;
     }
-    held.sections.iter().enumerate().all(|(i, section)| {
-        i < depth || (section.resource == 0 && section.steps.0 == 0)
-    })
+    held.sections[depth..]
+        .iter()
+        .all(|section| section.resource == 0 && section.steps.0 == 0)
 }
 
 fn is_unused(job: Job) -> bool
@@ -104,30 +104,28 @@ fn is_unused(job: Job) -> bool
 }
 
 // A place past the task count.
-pub(crate) fn unused(job: Job) -> bool
-    ensures { result ≡ stack_fits job.held && unused job }
+pub(crate) fn unused(job: &Job) -> bool
+    ensures { result ≡ stack_fits job.now.held && unused job.now }
 {
-    let held = job.held;
-    if !is_unused(job) {
+    if !is_unused(*job) {
         return false;
     }
-    stack_fits(held)
+    stack_fits(&job.held)
 }
 
 // A place in the table. That a task has 8 limits is said here for the walk.
-pub(crate) fn fits(task: Task, now: Tick, job: Job) -> bool
-    ensures { (result ≡ stack_fits job.held && job_fits task now.0 job) × (length task.limits ≡ 8) }
+pub(crate) fn fits(task: Task, now: Tick, job: &Job) -> bool
+    ensures { (result ≡ stack_fits job.now.held && job_fits task now.0 job.now) × (length task.limits ≡ 8) }
 {
-    let held = job.held;
-    if !stack_fits(held) {
+    if !stack_fits(&job.held) {
         return false;
     }
-    job_fits(task, now, job)
+    job_fits(task, now, *job)
 }
 
 // A resource that is held is in the set.
-pub(crate) fn is_taken(set: u16, held: Stack) -> bool
-    ensures { result ≡ is_taken set held }
+pub(crate) fn is_taken(set: u16, held: &Stack) -> bool
+    ensures { result ≡ is_taken set held.now }
 {
     held.in_use()
         .iter()

@@ -15,17 +15,16 @@ pub(crate) fn walk(table: Table, state: State) -> Option<Seen>
     ensures { result ≡ walked table state }
 {
     let mut seen = Seen::NOTHING;
-    for (k, &job) in state.jobs.iter().enumerate() {
+    for (k, job) in state.jobs.iter().enumerate() {
         if k < table.count {
             let task = table.tasks[k];
-            let held = job.held;
             if !jobs::fits(task, state.tick, job) {
                 return None;
             }
-            if jobs::is_taken(seen.held, held) {
+            if jobs::is_taken(seen.held, &job.held) {
                 return None;
             }
-            seen = gather::seen_with(seen, state.tick, job, k as u8);
+            seen = gather::seen_with(seen, state.tick, *job, k as u8);
         } else {
             if !jobs::unused(job) {
                 return None;

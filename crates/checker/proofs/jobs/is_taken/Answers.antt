@@ -8,5 +8,5 @@ use Rattle.checker.proofs.jobs.is_taken.Goals as goal
 
 pub returns : goal.returns
 returns c =
-    any_from_yields_List (λ x. has c.args.set x.resource) _ _ _ c.any.ensures.ran (YieldsList-from_slice (in_use c.args.held) (search rules)) (λ x b q k. search (rules, tests))
-    ∙ any_in_use c.args.held _
+    any_from_yields_List (λ x. has c.args.set x.resource) _ _ _ c.any.ensures.ran (YieldsList-from_slice (in_use c.args.held.now) (search rules)) (λ x b q k. search (rules, tests))
+    ∙ any_in_use c.args.held.now _

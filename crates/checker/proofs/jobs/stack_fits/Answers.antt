@@ -1,15 +1,15 @@
-use Rattle.std.proofs.Common.{rules, arith, ◌≡◌, ◌∙◌, ℕ, zero, suc, ◌+◌, ◌≤◌, ◌&&◌, ◌||◌, Bool, List, ltb, length, get_or, take, refl, sym, ap, add-one}
+use Rattle.std.proofs.Common.{rules, arith, ◌≡◌, ◌∙◌, ℕ, ◌+◌, ◌-◌, ◌<◌, ◌≤◌, ◌||◌, Bool, true, false, List, ltb, length, get_or, drop, take, refl, sym, ap, le-ltb, lt-ltb}
 use borrow.Author.Tests as borrowed
 use borrow.Author.Tests.{le-leb}
-use Rattle.std.specs.List.{list_all, enumerate_from}
+use mathlib.Core.Bool.{false≢true}
+use native.Mathlib.Decide.{dec_lt}
+use Rattle.std.specs.List.{list_all}
 use Rattle.std.proofs.lemmas.Iterator.{YieldsList-from_slice}
-use Rattle.std.proofs.lemmas.Iterator.Consumers.{YieldsList-from_enumerate}
 use Rattle.std.proofs.lemmas.Iterator.Search.{all_from_yields_List}
-use Rattle.std.proofs.lemmas.List.{take_all}
-use Rattle.std.proofs.lemmas.List.Folds.{list_all_more}
-use Rattle.std.proofs.lemmas.List.FromFn.{length-enumerate_from, get_or-enumerate_from}
-use Rattle.units.specs.Folds.{over, all}
-use Rattle.units.proofs.Laws.Folds.{long, over-same}
+use Rattle.std.proofs.lemmas.List.{get_or-drop, get_or_default, length-drop, take_all}
+use Rattle.std.proofs.lemmas.List.Sums.{AllPass-from_list_all, list_all-from_AllPass}
+use Rattle.units.specs.Folds.{all}
+use Rattle.units.proofs.Laws.Folds.{long, all_tells, all-holds}
 use Rattle.units.proofs.Laws.Tests.{tests, and_rest}
 use Rattle.state.specs.declared.Section.{Section}
 use Rattle.state.specs.declared.Stack.{Stack}
@@ -17,31 +17,44 @@ use Rattle.state.specs.Stack.{no_section, section_at}
 use Rattle.consistency.specs.Consistency.{is_none, stack_fits}
 use Rattle.checker.proofs.jobs.stack_fits.Goals as goal
 
-abbrev place : ℕ → ℕ × Section → Bool
-place depth x = ltb x.0 depth || is_none x.1
+-- the places above the depth
+module _ (h : Stack) (low : h.depth ≤ 4) (four : length h.sections ≡ 4) where
+  abbrev rest : List Section
+  rest = drop h.depth h.sections
 
-module _ (h : Stack) (four : length h.sections ≡ 4) where
-  abbrev each : List (ℕ × Section)
-  each = enumerate_from 0 h.sections
+  abbrev place : ℕ → Bool
+  place i = ltb i h.depth || is_none (section_at h i)
 
-  each_at : (k : ℕ) → k ≤ 3 → get_or each k (0, no_section) ≡ (k, section_at h k)
-  each_at k b =
-      let at : 0 + k ≡ k = omega arith in
-      get_or-enumerate_from 0 h.sections k (0, no_section) (omega (arith, four, b)) ∙ ap (λ (i : ℕ). (i, section_at h k)) at
+  long_rest : length rest ≡ 4 - h.depth
+  long_rest = omega (arith, length-drop h.depth h.sections, four)
 
-  first : (n : ℕ) → n ≤ 4 → list_all (place h.depth) (take n each) ≡ all (λ k. place h.depth (get_or each k (0, no_section))) n
-  unfolding all over
-  first zero b = refl
-  first (suc n) b =
-      ap (λ (k : ℕ). list_all (place h.depth) (take k each)) (sym (add-one n)) ∙ list_all_more (place h.depth) each n (0, no_section) (omega (arith, length-enumerate_from 0 h.sections, four, b))
-      ∙ ap (λ (a : Bool). a && place h.depth (get_or each n (0, no_section))) (first n (omega (arith, b)))
+  rest_at : (k : ℕ) (d : Section) → k < length rest → get_or rest k d ≡ section_at h (h.depth + k)
+  rest_at k d l = get_or_default rest k d no_section l ∙ get_or-drop h.depth h.sections k no_section
 
-  tested : h.depth ≤ 4 → {b : Bool} → b ≡ list_all (place h.depth) each → b ≡ stack_fits h
-  unfolding stack_fits all
-  tested low e =
-      and_rest _ _ _ (le-leb _ _ low)
-      (e ∙ sym (ap (list_all (place h.depth)) (take_all 4 each (omega (arith, length-enumerate_from 0 h.sections, four)))) ∙ first 4 (omega arith)
-      ∙ over-same _ _ _ _ _ 4 (λ k b. refl) (λ k a b. ap (λ (x : ℕ × Section). a && place h.depth x) (each_at k (omega (arith, b)))))
+  spare : list_all is_none rest ≡ all place 4
+  spare = go (list_all is_none rest) refl (all place 4) refl
+    where
+      each : list_all is_none rest ≡ true → (k : ℕ) → k < 4 → Dec (k < h.depth) → place k ≡ true
+      each e k b (yes l) = ap (λ (a : Bool). a || is_none (section_at h k)) (lt-ltb _ _ l)
+      each e k b (no l) =
+          let at : h.depth + (k - h.depth) ≡ k = omega (arith, l) in
+          ap (λ (a : Bool). a || is_none (section_at h k)) (le-ltb k h.depth (omega (arith, l)))
+          ∙ ap (λ (i : ℕ). is_none (section_at h i)) (sym at) ∙ ap is_none (sym (rest_at (k - h.depth) no_section (omega (arith, long_rest, b, l))))
+          ∙ AllPass-from_list_all is_none rest e (k - h.depth) no_section (omega (arith, long_rest, b, l))
+
+      back : all place 4 ≡ true → list_all is_none rest ≡ true
+      back f = list_all-from_AllPass is_none rest (λ k d l.
+          ap is_none (rest_at k d l) ∙ sym (ap (λ (a : Bool). a || is_none (section_at h (h.depth + k))) (le-ltb (h.depth + k) h.depth (omega arith)))
+          ∙ all_tells place 4 f (h.depth + k) (omega (arith, long_rest, l)))
+
+      go : (a : Bool) → list_all is_none rest ≡ a → (b : Bool) → all place 4 ≡ b → list_all is_none rest ≡ all place 4
+      go true e b f = e ∙ sym (all-holds place 4 (λ k l. each e k l (dec_lt k h.depth)))
+      go false e false f = e ∙ sym f
+      go false e true f = absurd (false≢true (sym e ∙ back f))
+
+  tested : {b : Bool} → b ≡ list_all is_none (take (4 - h.depth) rest) → b ≡ stack_fits h
+  unfolding stack_fits
+  tested e = and_rest _ _ _ (le-leb _ _ low) (e ∙ ap (list_all is_none) (take_all (4 - h.depth) rest (omega (arith, long_rest))) ∙ spare)
 
 pub returns-then-depth-gt-PLACES : goal.returns-then-depth-gt-PLACES
 unfolding stack_fits
@@ -49,5 +62,5 @@ returns-then-depth-gt-PLACES c = search tests
 
 pub returns : goal.returns
 returns c =
-    tested c.args.held (search (rules, long)) c.if-depth-gt-PLACES.false
-    (all_from_yields_List (place c.args.held.depth) _ _ _ c.all.ensures.ran (YieldsList-from_enumerate (YieldsList-from_slice c.args.held.sections (search rules)) (search rules)) (λ x b q k. search (rules, borrowed.tests)))
+    let h = c.args.held.now in
+    tested h c.if-depth-gt-PLACES.false (search (rules, long)) (all_from_yields_List is_none _ _ _ c.all.ensures.ran (YieldsList-from_slice (take (4 - h.depth) (drop h.depth h.sections)) (search rules)) (λ x b q k. search (rules, borrowed.tests)))
