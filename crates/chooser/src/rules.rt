@@ -11,7 +11,7 @@ use state::{Mark, Mode, Place};
 use table::Task;
 use units::Tick;
 
-// The mark's place; 0 where there is none.
+// The mark's place; 0, which is behind no other, where there is none.
 fn mark_place(now: Tick, mark: Mark) -> u64
     ensures { result ≡ mark_place now.0 mark }
 {

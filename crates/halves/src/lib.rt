@@ -10,7 +10,7 @@ use choice::Turn;
 use state::{Half, Job, Runner, State};
 use units::{Ticks, sets};
 
-// The position of the runner; 16 where there is none.
+// The position of the runner; 16 where there is none, since what follows takes any position.
 pub fn runner_position(runner: Runner) -> usize
     ensures { result ≡ runner_position runner }
 {

@@ -11,7 +11,8 @@ use units::Tick;
 mod pieces;
 mod writers;
 
-#[derive(Clone, Copy)]
+// The numbers are those that it prints: document 01's, of a table, of a call and of an ending.
+#[derive(Clone, Copy, Debug, PartialEq, Eq)]
 pub enum Line {
     Table(u8),
     Release {

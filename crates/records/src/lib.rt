@@ -13,7 +13,7 @@ mod bytes;
 mod contents;
 mod kinds;
 
-#[derive(Clone, Copy)]
+#[derive(Clone, Copy, Debug, PartialEq, Eq)]
 pub enum Event {
     Release(u8),
     Tick(Report),

@@ -5,6 +5,7 @@ use choice::Turn;
 use state::State;
 
 // The resources that are held and the positions that are due, one bit each; the places of top, of the first started job and of the last holder.
+// A place is a number and no Option: where there is none stands one behind every place, or 0, so that a smallest and a largest need no test.
 #[derive(Clone, Copy)]
 pub struct Seen {
     pub held: u16,

@@ -21,13 +21,15 @@ pub struct Section {
 }
 
 // The sections that a job is in, the outermost first: of four places those below the depth are in use.
+// No slice and no Vec: memory is fixed, and what stands above the depth is part of the state.
 #[derive(Clone, Copy, Debug, PartialEq, Eq)]
 pub struct Stack {
     pub depth: u8,
     pub sections: [Section; 4],
 }
 
-// The job of one task. What is not in use is 0.
+// The job of one task. What is not in use is 0. Whether it is pending is a flag and no Option: a state that is set by hand may hold the rest
+// without a job, and then it is not consistent.
 #[derive(Clone, Copy, Debug, PartialEq, Eq)]
 pub struct Job {
     pub pending: bool,
@@ -171,10 +173,10 @@ impl State {
         ensures { result ≡ fresh table tick }
     {
         let verdict = admission::verdict_of(table);
-        let mut now = Tick(0);
-        if verdict::number(verdict) == 0 {
-            now = tick;
-        }
+        let now = match verdict {
+            Ok(()) => tick,
+            Err(_) => Tick(0),
+        };
         let jobs = no_jobs(table.count);
         let state = State {
             tick: now,

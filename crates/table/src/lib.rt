@@ -31,7 +31,7 @@ impl Task {
     }
 }
 
-// Entries past the count are not read.
+// Entries past the count are not read. No slice and no Vec: memory is fixed, and a count that no table has is number 2.
 #[derive(Clone, Copy)]
 pub struct Table {
     pub full: u8,

@@ -30,7 +30,7 @@ pub fn how_many(set: u16) -> u32
     set.count_ones()
 }
 
-// The lowest position in the set; 16 where it is empty.
+// The lowest position in the set; 16 where it is empty, which is where its zeros end.
 #[tactic(auto, using(crate::proofs::Laws::Sets::zeros_lowest))]
 pub fn lowest(set: u16) -> u32
     ensures { result ≡ lowest (has set) 16 }

@@ -35,7 +35,7 @@ pub fn number(verdict: Verdict) -> u8
     }
 }
 
-// The position that it names; 0 where none is concerned.
+// The position that it names; 0 where none is concerned, as document 01 has it.
 pub fn position(verdict: Verdict) -> usize
     ensures { result ≡ (answer verdict).1 }
 {

@@ -1,5 +1,5 @@
 -- A fresh start. Assumes nothing.
-use Rattle.std.specs.Prelude.{None}
+use Rattle.std.specs.Prelude.{None, Ok, Err}
 use Prim.Native.Nat.{ℕ, ◌+◌, ◌-◌, ◌<◌, ◌≤◌}
 use mathlib.Core.Path.{◌≡◌, refl, sym, ◌∙◌}
 use mathlib.Core.Bool.{cond}
@@ -15,7 +15,9 @@ use Rattle.units.specs.Clock.{tick}
 use Rattle.units.specs.Folds.{over, listed}
 use Rattle.units.proofs.Laws.Folds.{listed_at, listed-length}
 use Rattle.units.proofs.Laws.Tests.{cond_yes, cond_no}
+use Rattle.verdict.specs.declared.Fault.{Fault}
 use Rattle.verdict.specs.Verdict.{Verdict, answer}
+use Rattle.verdict.proofs.Laws.{fault_counts}
 use Rattle.table.specs.declared.Table.{Table}
 use Rattle.table.proofs.Laws.Alike.{Alike}
 use Rattle.admission.specs.Admission.{verdict}
@@ -76,11 +78,18 @@ module _ (t : Table) (now : Tick) where
   unfolding fresh passes
   fresh-refused h = simp (ne_eqb _ _ h)
 
-  -- v is the verdict that was found, n its number, l the jobs and x the tick
-  pub fresh_found : {v : Verdict} {n : ℕ} {l : List Job} {x : Tick} → x ≡ cond (eqb n 0) now (tick 0) → l ≡ listed (λ k. no_job) 16 → v ≡ verdict t → n ≡ (answer v).0
+  -- the tick, by the verdict v that was found
+  pub at_passing : {v : Verdict} {u : Unit {0}} {x : Tick} → v ≡ Ok u → x ≡ now → x ≡ cond (eqb (answer v).0 0) now (tick 0)
+  at_passing e f = rw (e, f)
+
+  pub at_fault : {v : Verdict} {f : Fault} {x : Tick} → v ≡ Err f → x ≡ tick 0 → x ≡ cond (eqb (answer v).0 0) now (tick 0)
+  at_fault {f = f} e g = rw (e, g) (simp (ne_eqb _ _ (fault_counts f)))
+
+  -- l is the jobs and x the tick
+  pub fresh_found : {v : Verdict} {l : List Job} {x : Tick} → x ≡ cond (eqb (answer v).0 0) now (tick 0) → l ≡ listed (λ k. no_job) 16 → v ≡ verdict t
       → record { verdict = v; state = record { tick = x; jobs = l; mark = None; half = First; runner = None } } ≡ fresh t now
   unfolding fresh passes empty
-  fresh_found h j e m = rw (h, j, m, e)
+  fresh_found h j e = rw (h, j, e)
 
 -- "Entries past the task count are not read"
 pub fresh-same : {t u : Table} → Alike t u → (now : Tick) → fresh t now ≡ fresh u now
