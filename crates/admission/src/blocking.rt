@@ -12,6 +12,7 @@ fn longest_of(ceilings: &[Ticks; 8], task: &Task, deadline: Ticks) -> Steps
     ensures { result.0 ≡ largest (λ k. leb (get_or ceilings.now k (ticks 0)).0 deadline.0) (limit task.now) 8 }
 {
     let mut longest = Steps(0);
+    // An index: what a zip of the two lends does not say, in a proof, at which place it stands.
     for (r, limit) in task.limits.iter().enumerate() {
         if ceilings[r] <= deadline {
             longest = longest.max(*limit);

@@ -3,8 +3,6 @@ use Prim.Native.Nat.{ℕ, ◌+◌, ◌*◌, ◌/◌, ◌≤◌, ◌<◌, ◌^◌
 use mathlib.Core.Path.{◌≡◌, refl, sym, ap, ap₂, ◌∙◌}
 use native.Mathlib.Nat.{div-zero, div-le_self, mul-zero, mul-le-mul}
 use native.Mathlib.Omega.{arith}
-use mir.Syntax.{w64}
-use mir.Val.{Fits}
 use borrow.Author.Tests.{lt-ltb, le-ltb}
 use Rattle.units.specs.declared.Ticks.{Ticks}
 use Rattle.units.specs.declared.Steps.{Steps}
@@ -29,19 +27,8 @@ unfolding ticks_in_round
 found_ticks work speed g d e f = rw (e, f)
 
 -- no term is too large for a sum of 64 bits
-module _ (g d : ℕ) (l : g < 2 ^ 32) where
-  small : g / d ≤ 4294967295
-  small = omega (arith, div-le_self g d)
-
-  pub quotient_fits : Fits w64 (g / d)
-  quotient_fits = omega (arith, small)
-
-  module _ (u : ℕ) (h : u ≤ 65535) where
-    pub term_small : u * (g / d) ≤ 65535 * 4294967295
-    term_small = mul-le-mul h small
-
-    pub term_fits : Fits w64 (u * (g / d))
-    term_fits = omega (arith, term_small)
+pub term_small : (g d : ℕ) → g < 2 ^ 32 → (u : ℕ) → u ≤ 65535 → u * (g / d) ≤ 65535 * 4294967295
+term_small g d l u h = let small : g / d ≤ 4294967295 = omega (arith, div-le_self g d) in mul-le-mul h small
 
 -- one term more
 pub sum_on : (f : ℕ → ℕ) (n : ℕ) {s y : ℕ} → y ≡ f n → s ≡ sum f n → s + y ≡ sum f (n + 1)
