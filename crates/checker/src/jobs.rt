@@ -53,8 +53,8 @@ fn section_fits(task: Task, below: &[Section], section: Section) -> bool
             && !below.iter().any(|other| other.resource == section.resource))
 }
 
-fn held_fits(task: Task, held: Stack) -> bool
-    ensures { result ≡ held_fits task held }
+fn held_fits(task: Task, held: &Stack) -> bool
+    ensures { result ≡ held_fits task held.now }
 {
     let sections = held.in_use();
     for (i, section) in sections.iter().enumerate() {
@@ -65,23 +65,22 @@ fn held_fits(task: Task, held: Stack) -> bool
     true
 }
 
-fn job_fits(task: Task, now: Tick, job: Job) -> bool
-    ensures { result ≡ job_fits task now.0 job }
+fn job_fits(task: Task, now: Tick, job: &Job) -> bool
+    ensures { result ≡ job_fits task now.0 job.now }
 {
-    let held = job.held;
     if task.period.0 < job.wait.0 {
         return false;
     }
     if !job.pending {
-        return not_pending_fits(job);
+        return not_pending_fits(*job);
     }
-    if !started_fits(job) {
+    if !started_fits(*job) {
         return false;
     }
-    if !held_fits(task, held) {
+    if !held_fits(task, &job.held) {
         return false;
     }
-    pending_fits(task, now, job)
+    pending_fits(task, now, *job)
 }
 
 // What is not in use is 0.
@@ -120,7 +119,7 @@ pub(crate) fn fits(task: Task, now: Tick, job: &Job) -> bool
     if !stack_fits(&job.held) {
         return false;
     }
-    job_fits(task, now, *job)
+    job_fits(task, now, job)
 }
 
 // A resource that is held is in the set.
