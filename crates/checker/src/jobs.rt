@@ -8,11 +8,10 @@ use state::{Job, Section, Stack};
 use table::Task;
 use units::{Tick, sets};
 
-fn not_pending_fits(job: Job) -> bool
-    ensures { result ≡ not_pending_fits job }
+fn not_pending_fits(job: &Job) -> bool
+    ensures { result ≡ not_pending_fits job.now }
 {
-    let held = job.held;
-    !job.started && (job.used.0 == 0 && (!held.any() && job.deadline.0 == 0))
+    !job.started && (job.used.0 == 0 && (!job.held.any() && job.deadline.0 == 0))
 }
 
 // The ticks from a deadline to the next release: T - D.
@@ -26,8 +25,8 @@ fn after_deadline(task: Task) -> u64
 }
 
 #[tactic(auto, unfolding(consistency::specs::Consistency::pending_fits))]
-fn pending_fits(task: Task, now: Tick, job: Job) -> bool
-    ensures { result ≡ pending_fits task now.0 job }
+fn pending_fits(task: Task, now: Tick, job: &Job) -> bool
+    ensures { result ≡ pending_fits task now.0 job.now }
 {
     let ahead = now.distance(job.deadline) as u64;
     let deadline = task.deadline.0 as u64;
@@ -36,11 +35,10 @@ fn pending_fits(task: Task, now: Tick, job: Job) -> bool
         && (1 <= ahead && (ahead <= deadline && (job.wait.0 as u64) == ahead + rest))
 }
 
-fn started_fits(job: Job) -> bool
-    ensures { result ≡ started_fits job }
+fn started_fits(job: &Job) -> bool
+    ensures { result ≡ started_fits job.now }
 {
-    let held = job.held;
-    job.started || (job.used.0 == 0 && !held.any())
+    job.started || (job.used.0 == 0 && !job.held.any())
 }
 
 // Of a section that a job is in: no section below it is of its resource.
@@ -53,8 +51,8 @@ fn section_fits(task: Task, below: &[Section], section: Section) -> bool
             && !below.iter().any(|other| other.resource == section.resource))
 }
 
-fn held_fits(task: Task, held: Stack) -> bool
-    ensures { result ≡ held_fits task held }
+fn held_fits(task: Task, held: &Stack) -> bool
+    ensures { result ≡ held_fits task held.now }
 {
     let sections = held.in_use();
     for (i, section) in sections.iter().enumerate() {
@@ -65,10 +63,9 @@ fn held_fits(task: Task, held: Stack) -> bool
     true
 }
 
-fn job_fits(task: Task, now: Tick, job: Job) -> bool
-    ensures { result ≡ job_fits task now.0 job }
+fn job_fits(task: Task, now: Tick, job: &Job) -> bool
+    ensures { result ≡ job_fits task now.0 job.now }
 {
-    let held = job.held;
     if task.period.0 < job.wait.0 {
         return false;
     }
@@ -78,7 +75,7 @@ fn job_fits(task: Task, now: Tick, job: Job) -> bool
     if !started_fits(job) {
         return false;
     }
-    if !held_fits(task, held) {
+    if !held_fits(task, &job.held) {
         return false;
     }
     pending_fits(task, now, job)
@@ -97,8 +94,8 @@ fn stack_fits(held: &Stack) -> bool
         .all(|section| section.resource == 0 && section.steps.0 == 0)
 }
 
-fn is_unused(job: Job) -> bool
-    ensures { result ≡ unused job }
+fn is_unused(job: &Job) -> bool
+    ensures { result ≡ unused job.now }
 {
     !job.pending && (job.wait.0 == 0 && not_pending_fits(job))
 }
@@ -107,7 +104,7 @@ fn is_unused(job: Job) -> bool
 pub(crate) fn unused(job: &Job) -> bool
     ensures { result ≡ stack_fits job.now.held && unused job.now }
 {
-    if !is_unused(*job) {
+    if !is_unused(job) {
         return false;
     }
     stack_fits(&job.held)
@@ -120,7 +117,7 @@ pub(crate) fn fits(task: Task, now: Tick, job: &Job) -> bool
     if !stack_fits(&job.held) {
         return false;
     }
-    job_fits(task, now, *job)
+    job_fits(task, now, job)
 }
 
 // A resource that is held is in the set.

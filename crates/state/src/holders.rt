@@ -16,15 +16,15 @@ impl Stack {
     }
 
     // Whether a resource is held.
-    pub fn any(self) -> bool
-        ensures { result ≡ holds_any self }
+    pub fn any(&self) -> bool
+        ensures { result ≡ holds_any self.now }
     {
         0 < self.depth
     }
 
     // Whether this one is.
-    pub fn holds(self, resource: u8) -> bool
-        ensures { result ≡ holds resource self }
+    pub fn holds(&self, resource: u8) -> bool
+        ensures { result ≡ holds resource self.now }
     {
         self.in_use()
             .iter()
@@ -32,8 +32,8 @@ impl Stack {
     }
 
     // A set of resources, with those that are held.
-    pub fn join(self, set: u16) -> u16
-        ensures { result ≡ with_held set self }
+    pub fn join(&self, set: u16) -> u16
+        ensures { result ≡ with_held set self.now }
     {
         self.in_use().iter().fold(
             set,

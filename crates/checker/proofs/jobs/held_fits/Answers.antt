@@ -44,12 +44,12 @@ pub returns-then-not-section_fits : goal.returns-then-not-section_fits
 returns-then-not-section_fits c =
     let lent = c.in_use-sections.ensures in
     let m = c.loop-i-test.true in
-    unfit c.args.task c.args.held lent c.loop-i.i (is_fit c.args.task c.args.held lent c.loop-i.i _ m c.section_fits.ensures) c.if-not-section_fits.true m
+    unfit c.args.task c.args.held.now lent c.loop-i.i (is_fit c.args.task c.args.held.now lent c.loop-i.i _ m c.section_fits.ensures) c.if-not-section_fits.true m
 
 pub loop-i-preserved : goal.loop-i-preserved
 loop-i-preserved c =
     let lent = c.in_use-sections.ensures in
-    next c.args.task c.args.held lent c.loop-i.i (is_fit c.args.task c.args.held lent c.loop-i.i _ c.loop-i-test.true c.section_fits.ensures) c.if-not-section_fits.false c.loop-i.invariant
+    next c.args.task c.args.held.now lent c.loop-i.i (is_fit c.args.task c.args.held.now lent c.loop-i.i _ c.loop-i-test.true c.section_fits.ensures) c.if-not-section_fits.false c.loop-i.invariant
 
 pub returns : goal.returns
-returns c = fits c.args.task c.args.held c.in_use-sections.ensures c.loop-i.i (omega (arith, c.loop-i-test.false)) c.loop-i.invariant
+returns c = fits c.args.task c.args.held.now c.in_use-sections.ensures c.loop-i.i (omega (arith, c.loop-i-test.false)) c.loop-i.invariant

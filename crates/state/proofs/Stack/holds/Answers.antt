@@ -8,5 +8,5 @@ use Rattle.state.proofs.Stack.holds.Goals as goal
 
 pub returns : goal.returns
 returns c =
-    any_from_yields_List (λ x. eqb c.args.resource x.resource) _ _ _ c.any.ensures.ran (YieldsList-from_slice (in_use c.args.self) (search rules)) (λ x b q k. search (rules, tests))
-    ∙ any_in_use c.args.self _
+    any_from_yields_List (λ x. eqb c.args.resource x.resource) _ _ _ c.any.ensures.ran (YieldsList-from_slice (in_use c.args.self.now) (search rules)) (λ x b q k. search (rules, tests))
+    ∙ any_in_use c.args.self.now _

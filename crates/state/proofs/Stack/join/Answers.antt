@@ -7,5 +7,5 @@ use Rattle.state.proofs.Stack.join.Goals as goal
 
 pub returns : goal.returns
 returns c =
-    let gathered : c.fold.result ≡ fold (λ m x. with m x.resource) c.args.set (in_use c.args.self) = search rules in
-    gathered ∙ fold_in_use c.args.self _ _
+    let gathered : c.fold.result ≡ fold (λ m x. with m x.resource) c.args.set (in_use c.args.self.now) = search rules in
+    gathered ∙ fold_in_use c.args.self.now _ _
