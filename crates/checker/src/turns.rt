@@ -39,10 +39,10 @@ pub(crate) fn turn(table: Table, state: State, found: Seen, run: u64) -> Turn
         return Turn::IDLE;
     }
     let task = walks::task_at(table, runner::position(run));
-    let mut speed = 0u8;
-    if run != found.top {
-        speed = speed::inherited(table, state, run, task.deadline);
-    }
-    let mark = state.mark;
-    rules::rules(state.tick, mark, found, run, task, speed)
+    let inherited = if run != found.top {
+        speed::inherited(table, state, run, task.deadline)
+    } else {
+        0
+    };
+    rules::rules(state.tick, state.mark, found, run, task, inherited)
 }

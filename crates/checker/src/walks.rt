@@ -25,10 +25,8 @@ pub(crate) fn walk(table: Table, state: State) -> Option<Seen>
                 return None;
             }
             seen = gather::seen_with(seen, state.tick, *job, k as u8);
-        } else {
-            if !jobs::unused(job) {
-                return None;
-            }
+        } else if !jobs::unused(job) {
+            return None;
         }
     }
     Some(seen)
