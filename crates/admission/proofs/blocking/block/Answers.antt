@@ -27,6 +27,3 @@ loop-task-preserved c =
         | else-lt w ↦ largest_passed lower longest n (told_lt a.deadline.0 (get_or a.tasks.now n no_task).deadline.0 c.lt.ensures w.if-lt.false) (ap number w.longest-is) l.invariant.1
       ],
     )
-
-pub returns : goal.returns
-returns c = c.loop-task.invariant.1 ∙ ap (largest _ _) (omega arith)

@@ -26,6 +26,3 @@ loop-r-preserved c =
         | else-le w ↦ largest_passed within (limit a.task.now) l.r (told_le level a.deadline.0 c.le.ensures w.if-le.false) (ap number w.longest-is) l.invariant.1
       ],
     )
-
-pub returns : goal.returns
-returns c = c.loop-r.invariant.1 ∙ ap (largest _ _) (omega arith)
