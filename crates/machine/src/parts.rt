@@ -64,11 +64,12 @@ pub(crate) fn reported(
     requires { (p : ℕ) → turn.runner ≡ Some p → p < 16 }
     ensures { told (job_of state turn.runner) result ≡ reported_by table state turn.runner held turn.speed said }
 {
-    let p = halves::runner_position(turn.runner);
-    if p < State::TASKS {
-        let task = task_at(table, p);
-        let job = job_at(state, p);
-        return reporter::reported(task, job, held, turn.speed, said);
+    match turn.runner {
+        Some(p) => {
+            let task = task_at(table, p as usize);
+            let job = job_at(state, p as usize);
+            reporter::reported(task, job, held, turn.speed, said)
+        }
+        None => reporter::reported_idle(said),
     }
-    reporter::reported_idle(said)
 }
