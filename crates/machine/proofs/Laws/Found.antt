@@ -36,9 +36,6 @@ found_place t e l = let few = (admitted t (ap (λ (v : Verdict). (answer v).0) (
 
 -- a release, with the job and the task at its position found
 module _ (t : Table) (s : State) (p : ℕ) (good : consistent t s ≡ true) (between : mid_tick s.half ≡ false) (there : p < t.count) {j : Job} (e : j ≡ job_at s p) where
-  pub found_wait : 0 < j.wait.0 → release t s p ≡ bare 12 s
-  found_wait h = release_12 t s good between p there (rw (← e) h)
-
   pub found_free : j.wait.0 ≤ 0 → {next : Job} {task : Task} → next ≡ released task s.tick.0 → task ≡ task_at t p
       → release t s p ≡ bare 0 (record { tick = s.tick; jobs = set s.jobs p next; mark = s.mark; half = s.half; runner = s.runner })
   found_free l h i = release-taken t s good between p there (rw (← e) l) ∙ rw (h, i)
