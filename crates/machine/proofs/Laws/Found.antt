@@ -6,7 +6,7 @@ use mathlib.Core.Bool.{Bool, true, false, not}
 use native.Mathlib.Omega.{arith}
 use lib.ListN.{length, set}
 use borrow.Author.Tests.{eq-eqb, ne_eqb}
-use Rattle.units.proofs.Laws.Tests.{failed, cond_yes, cond_no}
+use Rattle.units.proofs.Laws.Tests.{failed, told-false, cond_yes, cond_no}
 use Rattle.verdict.specs.Verdict.{Verdict, passing, answer}
 use Rattle.table.specs.declared.Task.{Task}
 use Rattle.table.specs.declared.Table.{Table}
@@ -36,9 +36,6 @@ found_place t e l = let few = (admitted t (ap (λ (v : Verdict). (answer v).0) (
 
 -- a release, with the job and the task at its position found
 module _ (t : Table) (s : State) (p : ℕ) (good : consistent t s ≡ true) (between : mid_tick s.half ≡ false) (there : p < t.count) {j : Job} (e : j ≡ job_at s p) where
-  pub found_wait : 0 < j.wait.0 → release t s p ≡ bare 12 s
-  found_wait h = release_12 t s good between p there (rw (← e) h)
-
   pub found_free : j.wait.0 ≤ 0 → {next : Job} {task : Task} → next ≡ released task s.tick.0 → task ≡ task_at t p
       → release t s p ≡ bare 0 (record { tick = s.tick; jobs = set s.jobs p next; mark = s.mark; half = s.half; runner = s.runner })
   found_free l h i = release-taken t s good between p there (rw (← e) l) ∙ rw (h, i)
@@ -52,25 +49,28 @@ module _ (t : Table) (s : State) {x : Option Examined} {y : Examined} {h : Bool}
   found_between said m = report_11 t s (fit t s e f a) said (failed g m)
 
 -- a choice and a report, with what the examination handed back
-module _ (t : Table) (s : State) {x : Option Examined} {found : Examined} (e : x ≡ examined t s) (fits : x ≡ Some found) where
+module _ (t : Table) (s : State) (a : passing ≡ verdict t) {x : Option Examined} {found : Examined} (e : x ≡ examined t s) (fits : x ≡ Some found) where
+  good : consistent t s ≡ true
+  good = fit t s e fits a
+
   abbrev whole : Examined
   whole = record { turn = turn t s; held = held_resources s; due = due s }
 
   is_whole : found ≡ whole
   is_whole = handed_back t s e fits
 
-  pub found_choice : (next : State) → next ≡ in_mid_tick s found.turn → consistent t s ≡ true → mid_tick s.half ≡ false → chosen (record { state = next; turn = found.turn }) ≡ choose t s
+  pub found_choice : (next : State) → next ≡ in_mid_tick s found.turn → {h : Bool} → h ≡ mid_tick s.half → h ≡ false → chosen (record { state = next; turn = found.turn }) ≡ choose t s
   unfolding choice
-  found_choice next h good between =
+  found_choice next h d m =
       let u : found.turn ≡ turn t s = ap (λ (x : Examined). x.turn) is_whole in
-      choose_makes t s good between (record { state = next; turn = found.turn }) (rw (h, u))
+      choose_makes t s good (told-false d m) (record { state = next; turn = found.turn }) (rw (h, u))
 
   -- whoever runs is at a position below 16
   pub found_below : (p : ℕ) → found.turn.runner ≡ Some p → p < 16
   found_below p h = runner_below t s p (sym (ap (λ (x : Examined). x.turn.runner) is_whole) ∙ h)
 
   module _ {after : Reported} {p : ℕ} (said : Report) (f : after ≡ reported_by t s found.turn.runner found.held found.turn.speed said) (g : p ≡ runner_position found.turn.runner)
-      (good : consistent t s ≡ true) (mid : mid_tick s.half ≡ true) (long : length s.jobs ≡ 16) (small : s.tick.0 < 2 ^ 32) where
+      (mid : mid_tick s.half ≡ true) (long : length s.jobs ≡ 16) (small : s.tick.0 < 2 ^ 32) where
     abbrev by : Examined → Answer
     by x = answered s x.due x.turn (runner_position x.turn.runner) (reported_by t s x.turn.runner x.held x.turn.speed said)
 
@@ -80,11 +80,11 @@ module _ (t : Table) (s : State) {x : Option Examined} {found : Examined} (e : x
         ∙ sym (ap₂ (answered s found.due found.turn) g f)
 
     pub found_number : (after.number ≡ 0 → ⊥) → report t s said ≡ bare after.number s
-    found_number h = report-is ∙ cond_no _ _ (ne_eqb after.number 0 h)
+    found_number n = report-is ∙ cond_no _ _ (ne_eqb after.number 0 n)
 
     module _ (z : after.number ≡ 0) {b : Bool} (l : b ≡ late_by found.due p (not after.job.pending)) where
       pub found_late : b ≡ true → report t s said ≡ bare 16 s
-      found_late h = report-is ∙ cond_yes _ _ (eq-eqb after.number 0 z) ∙ cond_yes _ _ (sym l ∙ h)
+      found_late w = report-is ∙ cond_yes _ _ (eq-eqb after.number 0 z) ∙ cond_yes _ _ (sym l ∙ w)
 
       pub found_closed : b ≡ false → report t s said ≡ taken-answer s (set s.jobs p after.job) found.turn after.ending
-      found_closed h = report-is ∙ cond_yes _ _ (eq-eqb after.number 0 z) ∙ cond_no _ _ (sym l ∙ h)
+      found_closed w = report-is ∙ cond_yes _ _ (eq-eqb after.number 0 z) ∙ cond_no _ _ (sym l ∙ w)

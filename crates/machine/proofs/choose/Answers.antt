@@ -19,7 +19,4 @@ returns-then-mid_tick c =
     search (told, choose_11)
 
 pub returns : goal.returns
-returns c =
-    let fits = c.in_ok-found.ensures.ok_part in
-    let good = fit _ _ c.examine.ensures fits c.in_ok-verdict_of.ensures in
-    search (told, found_choice)
+returns c = found_choice _ _ c.in_ok-verdict_of.ensures c.examine.ensures c.in_ok-found.ensures.ok_part _ c.in_mid_tick.ensures c.mid_tick.ensures c.if-mid_tick.false

@@ -1,12 +1,8 @@
-use mathlib.Core.Bool.{true}
-use Rattle.machine.specs.Machine.{mid_tick}
-use Prim.Native.Nat.{◌^◌, ◌<◌}
-use mathlib.Core.Path.{◌≡◌, refl, sym}
-use lib.ListN.{length}
+use mathlib.Core.Path.{refl, sym}
 use Rattle.units.proofs.Laws.Tests.{told, tests}
 use Rattle.units.proofs.Laws.Folds.{long}
 use Rattle.state.proofs.Laws.Answers.{refusal_some}
-use Rattle.seen.proofs.Laws.Examined.{faulty, unfit, fit}
+use Rattle.seen.proofs.Laws.Examined.{faulty, unfit}
 use Rattle.machine.proofs.Laws.Calls.{report_9}
 use Rattle.machine.proofs.Laws.Found.{found_below, found_number, found_late, found_closed}
 use borrow.Author.Rules.{rules}
@@ -21,29 +17,15 @@ returns-in_err-found c =
     search (rules, told, report_9)
 
 pub reported-requires : goal.reported-requires
-reported-requires c = found_below _ _ c.examine.ensures c.in_ok-found.ensures.ok_part
+reported-requires c = found_below _ _ c.in_ok-verdict_of.ensures c.examine.ensures c.in_ok-found.ensures.ok_part
 
 pub returns-in_err-after : goal.returns-in_err-after
 returns-in_err-after c =
-    let good = fit _ _ c.examine.ensures c.in_ok-found.ensures.ok_part c.in_ok-verdict_of.ensures in
-    let middle : mid_tick c.args.state.half ≡ true = search tests in
-    let long : length c.args.state.jobs ≡ 16 = search (rules, long) in
-    let ranged : c.args.state.tick.0 < 2 ^ 32 = search rules in
-    let refused = found_number _ _ c.examine.ensures c.in_ok-found.ensures.ok_part _ c.in_err-after.ensures c.runner_position-p.ensures good middle long ranged (refusal_some _) in
+    let refused = found_number _ _ c.in_ok-verdict_of.ensures c.examine.ensures c.in_ok-found.ensures.ok_part _ c.in_err-after.ensures c.runner_position-p.ensures (search tests) (search (rules, long)) (search rules) (refusal_some _) in
     search (rules, refused)
 
 pub returns-then-late : goal.returns-then-late
-returns-then-late c =
-    let good = fit _ _ c.examine.ensures c.in_ok-found.ensures.ok_part c.in_ok-verdict_of.ensures in
-    let middle : mid_tick c.args.state.half ≡ true = search tests in
-    let long : length c.args.state.jobs ≡ 16 = search (rules, long) in
-    let ranged : c.args.state.tick.0 < 2 ^ 32 = search rules in
-    sym (found_late _ _ c.examine.ensures c.in_ok-found.ensures.ok_part _ c.in_ok-after.ensures c.runner_position-p.ensures good middle long ranged refl c.late.ensures c.if-late.true)
+returns-then-late c = sym (found_late _ _ c.in_ok-verdict_of.ensures c.examine.ensures c.in_ok-found.ensures.ok_part _ c.in_ok-after.ensures c.runner_position-p.ensures (search tests) (search (rules, long)) (search rules) refl c.late.ensures c.if-late.true)
 
 pub returns : goal.returns
-returns c =
-    let good = fit _ _ c.examine.ensures c.in_ok-found.ensures.ok_part c.in_ok-verdict_of.ensures in
-    let middle : mid_tick c.args.state.half ≡ true = search tests in
-    let long : length c.args.state.jobs ≡ 16 = search (rules, long) in
-    let ranged : c.args.state.tick.0 < 2 ^ 32 = search rules in
-    rw c.closed.ensures (sym (found_closed _ _ c.examine.ensures c.in_ok-found.ensures.ok_part _ c.in_ok-after.ensures c.runner_position-p.ensures good middle long ranged refl c.late.ensures c.if-late.false))
+returns c = rw c.closed.ensures (sym (found_closed _ _ c.in_ok-verdict_of.ensures c.examine.ensures c.in_ok-found.ensures.ok_part _ c.in_ok-after.ensures c.runner_position-p.ensures (search tests) (search (rules, long)) (search rules) refl c.late.ensures c.if-late.false))
