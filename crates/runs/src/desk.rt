@@ -116,7 +116,11 @@ impl Desk {
         let answer = machine::report(self.table, self.state, said);
         self.go_on(answer);
         let choice = Choice::of(answer);
-        println!(rt; "{now} report {} {choice} {}", number(answer), ending(answer))
+        println!(rt;
+            "{now} report {} {choice} {}",
+            number(answer),
+            ending(answer)
+        )
     }
 
     fn tick(&mut self, rt: &impl Print, said: Report) -> io::Result<()> {
