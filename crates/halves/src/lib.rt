@@ -24,18 +24,16 @@ pub fn runner_position(runner: Runner) -> usize
 pub fn in_mid_tick(state: State, turn: Turn) -> State
     ensures { result ≡ in_mid_tick state turn }
 {
-    let runner = turn.runner;
-    let mark = turn.mark;
-    let p = runner_position(runner);
+    let p = runner_position(turn.runner);
     let mut jobs = state.jobs;
     if p < State::TASKS {
         jobs[p].started = true;
     }
     State {
         jobs,
-        mark,
+        mark: turn.mark,
         half: Half::Second,
-        runner,
+        runner: turn.runner,
         ..state
     }
 }

@@ -5,7 +5,8 @@ ghost use Rattle.lines.specs.Writing.{Wrote};
 
 use state::{Mode, Runner};
 
-// The lent part of the output, and where its next byte goes.
+// The lent part of the output, and where its next byte goes. Each piece asks for its own room, so that it is no invariant of the part;
+// and no Formatter, whose `fmt` promises nothing of the bytes.
 #[derive(Drop)]
 pub(crate) struct Part<'a> {
     pub(crate) out: &'a mut [u8],

@@ -29,6 +29,7 @@ fn write_events(file: &[u8], table: Table, start: State, out: &mut [u8]) -> usiz
     let first = records::first_event(file);
     let mut state = start;
     let mut at = 0;
+    // An index: an event is asked for by its place in the file.
     for k in 0..records::event_count(file) {
         let step = steps::step(table, state, records::event_at(file, first + k));
         at += step.line.write(&mut out[at..]);

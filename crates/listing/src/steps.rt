@@ -14,11 +14,10 @@ use table::Table;
 fn release(table: Table, state: State, position: u8) -> Step
     ensures { result ≡ released state position (Machine.release table state position) }
 {
-    let tick = state.tick;
     match machine::release(table, state, position as usize) {
         Ok(success) => Step {
             line: Line::Release {
-                tick,
+                tick: state.tick,
                 position,
                 number: 0,
             },
@@ -26,7 +25,7 @@ fn release(table: Table, state: State, position: u8) -> Step
         },
         Err(refusal) => Step {
             line: Line::Release {
-                tick,
+                tick: state.tick,
                 position,
                 number: refusal.number(),
             },
@@ -39,11 +38,10 @@ fn release(table: Table, state: State, position: u8) -> Step
 fn ticked(state: State, answer: Result<Success, Refusal>) -> Step
     ensures { result ≡ ticked state (told state answer) }
 {
-    let tick = state.tick;
     match answer {
         Ok(success) => Step {
             line: Line::Run {
-                tick,
+                tick: state.tick,
                 runner: success.runner,
                 mode: success.mode,
                 speed: success.speed,
@@ -53,7 +51,7 @@ fn ticked(state: State, answer: Result<Success, Refusal>) -> Step
         },
         Err(refusal) => Step {
             line: Line::Refused {
-                tick,
+                tick: state.tick,
                 number: refusal.number(),
             },
             state,

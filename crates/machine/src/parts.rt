@@ -29,7 +29,8 @@ pub(crate) fn released(task: Task, now: Tick) -> Job
     }
 }
 
-// One job of a state, one task of a table, and a state with another job.
+// One job of a state, one task of a table, and a state with another job. Small functions that look, since one that looks and hands on has
+// two copies on the stack; `checker` has its own `task_at`, since a public one would promise something of a position past the end.
 pub(crate) fn job_at(state: State, position: usize) -> Job
     requires { position < 16 }
     ensures { result ≡ job_at state position }

@@ -38,6 +38,7 @@ pub(crate) fn entries(records: &[[u8; 32]]) -> [Task; 16]
     array::from_fn(|k| task(bytes::at(records, k)))
 }
 
+// Of any two bytes, since a record is read before anything is known of it.
 #[tactic(auto, unfolding(crate::specs::Contents::report))]
 pub(crate) fn report(said: u8, resource: u8) -> Report
     ensures { result ≡ report said resource }

@@ -24,6 +24,7 @@ pub(crate) fn sized(n: usize) -> bool
     (1..=MOST_BYTES).contains(&n) && n.is_multiple_of(32)
 }
 
+// A function for each kind, as document 01 has them: one for both would take the kind and two ranges, which are all that they say.
 #[tactic(auto, using(std::proofs::lemmas::Bool::Decides::nat_tests), unfolding(crate::specs::Records::is_setting))]
 pub(crate) fn is_setting(bytes: &[u8]) -> bool
     ensures { result ≡ is_setting bytes.now }

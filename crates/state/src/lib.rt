@@ -114,6 +114,7 @@ pub struct Success {
     pub ending: Ending,
 }
 
+// Both, and no Result: a table that does not pass gives a state too, of zeros.
 #[derive(Clone, Copy)]
 pub struct Start {
     pub verdict: Verdict,
