@@ -10,7 +10,7 @@ use Rattle.std.proofs.lemmas.List.{get_or-drop, get_or_default, length-drop, tak
 use Rattle.std.proofs.lemmas.List.Sums.{AllPass-from_list_all, list_all-from_AllPass}
 use Rattle.units.specs.Folds.{all}
 use Rattle.units.proofs.Laws.Folds.{long, all_tells, all-holds}
-use Rattle.units.proofs.Laws.Tests.{tests, and_rest}
+use Rattle.units.proofs.Laws.Tests.{and_rest}
 use Rattle.state.specs.declared.Section.{Section}
 use Rattle.state.specs.declared.Stack.{Stack}
 use Rattle.state.specs.Stack.{no_section, section_at}
@@ -52,15 +52,15 @@ module _ (h : Stack) (low : h.depth ≤ 4) (four : length h.sections ≡ 4) wher
       go false e false f = e ∙ sym f
       go false e true f = absurd (false≢true (sym e ∙ back f))
 
-  tested : {b : Bool} → b ≡ list_all is_none (take (4 - h.depth) rest) → b ≡ stack_fits h
+  counted : {b : Bool} → b ≡ list_all is_none (take (4 - h.depth) rest) → b ≡ stack_fits h
   unfolding stack_fits
-  tested e = and_rest _ _ _ (le-leb _ _ low) (e ∙ ap (list_all is_none) (take_all (4 - h.depth) rest (omega (arith, long_rest))) ∙ spare)
+  counted e = and_rest _ _ _ (le-leb _ _ low) (e ∙ ap (list_all is_none) (take_all (4 - h.depth) rest (omega (arith, long_rest))) ∙ spare)
 
-pub returns-then-depth-gt-PLACES : goal.returns-then-depth-gt-PLACES
-unfolding stack_fits
-returns-then-depth-gt-PLACES c = search tests
+tested : (h : Stack) {n : ℕ} → n ≡ h.depth → n ≤ 4 → length h.sections ≡ 4 → {b : Bool} → b ≡ list_all is_none (take (4 - n) (drop n h.sections)) → b ≡ stack_fits h
+tested h m low four e = counted h (omega (arith, m, low)) four (rw m at e)
 
-pub returns : goal.returns
-returns c =
+pub returns-then-depth-le-PLACES : goal.returns-then-depth-le-PLACES
+returns-then-depth-le-PLACES c =
     let h = c.args.held.now in
-    tested h c.if-depth-gt-PLACES.false (search (rules, long)) (all_from_yields_List is_none _ _ _ c.all.ensures.ran (YieldsList-from_slice (take (4 - h.depth) (drop h.depth h.sections)) (search rules)) (λ x b q k. search (rules, borrowed.tests)))
+    let n = c.from-depth.result in
+    tested h c.from-depth.ensures c.if-depth-le-PLACES.true (search (rules, long)) (all_from_yields_List is_none _ _ _ c.all.ensures.ran (YieldsList-from_slice (take (4 - n) (drop n h.sections)) (search rules)) (λ x b q k. search (rules, borrowed.tests)))
