@@ -91,18 +91,12 @@ fn stack_fits(held: &Stack) -> bool
             .all(|section| *section == Section::NONE)
 }
 
-#[tactic(auto, using(std::proofs::lemmas::Bool::Decides::nat_tests), unfolding(consistency::specs::Consistency::unused))]
-fn is_unused(job: &Job) -> bool
-    ensures { result ≡ unused job.now }
-{
-    !job.pending && job.wait == Ticks(0) && not_pending_fits(job)
-}
-
 // A place past the task count.
+#[tactic(auto, using(std::proofs::lemmas::Bool::Decides::nat_tests), unfolding(consistency::specs::Consistency::unused))]
 pub(crate) fn unused(job: &Job) -> bool
     ensures { result ≡ stack_fits job.now.held && unused job.now }
 {
-    is_unused(job) && stack_fits(&job.held)
+    !job.pending && job.wait == Ticks(0) && not_pending_fits(job) && stack_fits(&job.held)
 }
 
 // A place in the table. That a task has 8 limits is said here for the walk.
