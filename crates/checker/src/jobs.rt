@@ -8,7 +8,7 @@ use state::{Job, Section, Stack};
 use table::Task;
 use units::{Steps, Tick, Ticks, sets};
 
-#[tactic(auto, using(std::proofs::lemmas::Bool::Decides::nat_tests), unfolding(consistency::specs::Consistency::not_pending_fits))]
+#[tactic(auto, unfolding(consistency::specs::Consistency::not_pending_fits))]
 fn not_pending_fits(job: &Job) -> bool
     ensures { result ≡ not_pending_fits job.now }
 {
@@ -22,7 +22,7 @@ fn after_deadline(task: Task) -> u64
     u64::from(task.period.0.saturating_sub(task.deadline.0))
 }
 
-#[tactic(auto, using(std::proofs::lemmas::Bool::Decides::nat_tests), unfolding(consistency::specs::Consistency::pending_fits))]
+#[tactic(auto, unfolding(consistency::specs::Consistency::pending_fits))]
 fn pending_fits(task: Task, now: Tick, job: &Job) -> bool
     ensures { result ≡ pending_fits task now.0 job.now }
 {
@@ -32,7 +32,7 @@ fn pending_fits(task: Task, now: Tick, job: &Job) -> bool
         && u64::from(job.wait.0) == ahead + after_deadline(task)
 }
 
-#[tactic(auto, using(std::proofs::lemmas::Bool::Decides::nat_tests), unfolding(consistency::specs::Consistency::started_fits))]
+#[tactic(auto, unfolding(consistency::specs::Consistency::started_fits))]
 fn started_fits(job: &Job) -> bool
     ensures { result ≡ started_fits job.now }
 {
@@ -47,7 +47,6 @@ fn is_among(sections: &[Section], resource: u8) -> bool
 }
 
 // Of a section that a job is in: no section below it is of its resource.
-#[tactic(auto, using(std::proofs::lemmas::Bool::Decides::nat_tests))]
 fn section_fits(task: Task, below: &[Section], section: Section) -> bool
     ensures { result ≡ ltb 0 (limit task section.resource) && (ltb section.steps.0 (limit task section.resource) && not (list_any (λ x. eqb x.resource section.resource) below.now)) }
 {
@@ -67,7 +66,7 @@ fn held_fits(task: Task, held: &Stack) -> bool
     true
 }
 
-#[tactic(auto, using(std::proofs::lemmas::Bool::Decides::nat_tests, consistency::proofs::Laws::Jobs::absent_fits), unfolding(consistency::specs::Consistency::job_fits, consistency::specs::Consistency::wait_fits))]
+#[tactic(auto, using(consistency::proofs::Laws::Jobs::absent_fits), unfolding(consistency::specs::Consistency::job_fits, consistency::specs::Consistency::wait_fits))]
 fn job_fits(task: Task, now: Tick, job: &Job) -> bool
     ensures { result ≡ job_fits task now.0 job.now }
 {
@@ -80,7 +79,7 @@ fn job_fits(task: Task, now: Tick, job: &Job) -> bool
 }
 
 // What is not in use is 0.
-#[tactic(auto, using(std::proofs::lemmas::Bool::Decides::nat_tests), unfolding(consistency::specs::Consistency::stack_fits))]
+#[tactic(auto, unfolding(consistency::specs::Consistency::stack_fits))]
 fn stack_fits(held: &Stack) -> bool
     ensures { result ≡ stack_fits held.now }
 {
@@ -92,7 +91,7 @@ fn stack_fits(held: &Stack) -> bool
 }
 
 // A place past the task count.
-#[tactic(auto, using(std::proofs::lemmas::Bool::Decides::nat_tests), unfolding(consistency::specs::Consistency::unused))]
+#[tactic(auto, unfolding(consistency::specs::Consistency::unused))]
 pub(crate) fn unused(job: &Job) -> bool
     ensures { result ≡ stack_fits job.now.held && unused job.now }
 {
