@@ -58,12 +58,7 @@ fn held_fits(task: Task, held: &Stack) -> bool
     ensures { result ≡ held_fits task held.now }
 {
     let sections = held.in_use();
-    for (i, section) in sections.iter().enumerate() {
-        if !section_fits(task, &sections[..i], *section) {
-            return false;
-        }
-    }
-    true
+    sections.iter().enumerate().all(|(i, section)| section_fits(task, &sections[..i], *section))
 }
 
 #[tactic(auto, using(consistency::proofs::Laws::Jobs::absent_fits), unfolding(consistency::specs::Consistency::job_fits, consistency::specs::Consistency::wait_fits))]

@@ -1,9 +1,9 @@
-use Rattle.std.proofs.Common.{rules, arith, ◌≡◌, ◌∙◌, ℕ, ◌+◌, ◌-◌, ◌<◌, ◌≤◌, ◌||◌, Bool, true, false, List, ltb, length, get_or, drop, take, refl, sym, ap, le-ltb, lt-ltb}
+use Rattle.std.proofs.Common.{rules, arith, ◌≡◌, ◌∙◌, ℕ, ◌+◌, ◌-◌, ◌<◌, ◌≤◌, ◌||◌, Bool, true, List, ltb, length, get_or, drop, take, sym, ap, le-ltb, lt-ltb}
 use borrow.Author.Tests as borrowed
 use borrow.Author.Tests.{le-leb}
-use mathlib.Core.Bool.{false≢true}
 use native.Mathlib.Decide.{dec_lt}
 use Rattle.std.specs.List.{list_all}
+use Rattle.std.proofs.lemmas.Bool.Decides.{same_from_decides}
 use Rattle.std.proofs.lemmas.Iterator.{YieldsList-from_slice}
 use Rattle.std.proofs.lemmas.Iterator.Search.{all_from_yields_List}
 use Rattle.std.proofs.lemmas.List.{get_or-drop, get_or_default, length-drop, take_all}
@@ -32,7 +32,7 @@ module _ (h : Stack) (low : h.depth ≤ 4) (four : length h.sections ≡ 4) wher
   rest_at k d l = get_or_default rest k d no_section l ∙ get_or-drop h.depth h.sections k no_section
 
   spare : list_all is_none rest ≡ all place 4
-  spare = go (list_all is_none rest) refl (all place 4) refl
+  spare = same_from_decides _ _ ((λ e. all-holds place 4 (λ k l. each e k l (dec_lt k h.depth))), back) ((λ e. e), (λ e. e))
     where
       each : list_all is_none rest ≡ true → (k : ℕ) → k < 4 → Dec (k < h.depth) → place k ≡ true
       each e k b (yes l) = ap (λ (a : Bool). a || is_none (section_at h k)) (lt-ltb _ _ l)
@@ -46,11 +46,6 @@ module _ (h : Stack) (low : h.depth ≤ 4) (four : length h.sections ≡ 4) wher
       back f = list_all-from_AllPass is_none rest (λ k d l.
           ap is_none (rest_at k d l) ∙ sym (ap (λ (a : Bool). a || is_none (section_at h (h.depth + k))) (le-ltb (h.depth + k) h.depth (omega arith)))
           ∙ all_tells place 4 f (h.depth + k) (omega (arith, long_rest, l)))
-
-      go : (a : Bool) → list_all is_none rest ≡ a → (b : Bool) → all place 4 ≡ b → list_all is_none rest ≡ all place 4
-      go true e b f = e ∙ sym (all-holds place 4 (λ k l. each e k l (dec_lt k h.depth)))
-      go false e false f = e ∙ sym f
-      go false e true f = absurd (false≢true (sym e ∙ back f))
 
   counted : {b : Bool} → b ≡ list_all is_none (take (4 - h.depth) rest) → b ≡ stack_fits h
   unfolding stack_fits
