@@ -36,7 +36,7 @@ fn pending_fits(task: Task, now: Tick, job: &Job) -> bool
 fn started_fits(job: &Job) -> bool
     ensures { result ≡ started_fits job.now }
 {
-    job.started || job.used == Steps(0) && !job.held.any()
+    job.started || (job.used == Steps(0) && !job.held.any())
 }
 
 // Whether one of the sections is of the resource.
