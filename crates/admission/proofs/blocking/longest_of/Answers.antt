@@ -4,7 +4,6 @@ use Rattle.units.specs.Amounts.{ticks, steps}
 use Rattle.units.specs.Folds.{largest, over}
 use Rattle.units.proofs.Laws.Tests.{told_le}
 use Rattle.units.proofs.Laws.Loops.{told_max, largest_taken, largest_passed}
-use Rattle.table.specs.Table.{limit}
 use Rattle.admission.proofs.blocking.longest_of.Goals as goal
 use Rattle.admission.proofs.blocking.longest_of.Goals.{then-le, else-le}
 
@@ -18,11 +17,12 @@ loop-r-preserved c =
     let a = c.args in
     let level = (get_or a.ceilings.now l.r (ticks 0)).0 in
     let within = λ (k : ℕ). leb (get_or a.ceilings.now k (ticks 0)).0 a.deadline.0 in
+    let section = λ (k : ℕ). (get_or a.sections.now k (steps 0)).0 in
     let number = λ (s : Steps). s.0 in (
       omega arith,
       elim c.if-le.branch [
-        | then-le w ↦ largest_taken within (limit a.task.now) l.r (told_le level a.deadline.0 c.le.ensures w.if-le.true)
-            (ap number w.longest-is ∙ told_max number l.longest (get_or a.task.now.limits l.r (steps 0)) w.max-longest.ensures) l.invariant.1
-        | else-le w ↦ largest_passed within (limit a.task.now) l.r (told_le level a.deadline.0 c.le.ensures w.if-le.false) (ap number w.longest-is) l.invariant.1
+        | then-le w ↦ largest_taken within section l.r (told_le level a.deadline.0 c.le.ensures w.if-le.true)
+            (ap number w.longest-is ∙ told_max number l.longest (get_or a.sections.now l.r (steps 0)) w.max-longest.ensures) l.invariant.1
+        | else-le w ↦ largest_passed within section l.r (told_le level a.deadline.0 c.le.ensures w.if-le.false) (ap number w.longest-is) l.invariant.1
       ],
     )
