@@ -40,13 +40,7 @@ pub fn position(verdict: Verdict) -> usize
     ensures { result ≡ (answer verdict).1 }
 {
     match verdict {
-        Ok(()) => 0,
-        Err(Fault::Count) => 0,
-        Err(Fault::Setting) => 0,
-        Err(Fault::Range(k)) => k,
-        Err(Fault::Divisor(k)) => k,
-        Err(Fault::Order(k)) => k,
-        Err(Fault::Independent) => 0,
-        Err(Fault::Synchronization(k)) => k,
+        Err(Fault::Range(k) | Fault::Divisor(k) | Fault::Order(k) | Fault::Synchronization(k)) => k,
+        _ => 0,
     }
 }
