@@ -17,7 +17,10 @@ pub fn position(place: u64) -> u8
 fn barred(held: u16, ceilings: [Ticks; 8], deadline: Ticks) -> bool
     ensures { result ≡ barred held ceilings deadline.0 }
 {
-    ceilings.iter().enumerate().any(|(r, ceiling)| sets::has(held, r) && ceiling.0 <= deadline.0)
+    ceilings
+        .iter()
+        .enumerate()
+        .any(|(r, ceiling)| sets::has(held, r) && *ceiling <= deadline)
 }
 
 // The place of the runner, by top's deadline: top's, or where what is held bars that the first started job's.

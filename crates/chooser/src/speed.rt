@@ -23,12 +23,12 @@ fn shortest_ahead(jobs: &[Job], tasks: &[Task], now: Tick, run: u64) -> u16
 }
 
 // The largest S of the tasks whose D lies between two, both counted.
-fn fastest(tasks: &[Task], low: u16, high: u16) -> u8
-    ensures { result ≡ fold (λ m x. max m x.synchronization) 0 (filter (λ x. leb low x.deadline.0 && leb x.deadline.0 high) tasks.now) }
+fn fastest(tasks: &[Task], low: Ticks, high: Ticks) -> u8
+    ensures { result ≡ fold (λ m x. max m x.synchronization) 0 (filter (λ x. leb low.0 x.deadline.0 && leb x.deadline.0 high.0) tasks.now) }
 {
     tasks
         .iter()
-        .filter(|task| low <= task.deadline.0 && task.deadline.0 <= high)
+        .filter(|task| (low..=high).contains(&task.deadline))
         .fold(0u8, |best, task| best.max(task.synchronization))
 }
 
@@ -38,6 +38,6 @@ pub fn inherited(table: Table, state: State, run: u64, own: Ticks) -> u8
 {
     let n = table.count.min(State::TASKS);
     let tasks = &table.tasks[..n];
-    let ahead = shortest_ahead(&state.jobs[..n], tasks, state.tick, run);
-    fastest(tasks, own.0.min(ahead), own.0.max(ahead))
+    let ahead = Ticks(shortest_ahead(&state.jobs[..n], tasks, state.tick, run));
+    fastest(tasks, own.min(ahead), own.max(ahead))
 }

@@ -8,6 +8,7 @@ ghost use Rattle.machine.specs.Machine.{release, choose, report};
 use checker::examine;
 use state::{Ending, Refusal, Report, State, Success};
 use table::Table;
+use units::Ticks;
 
 mod parts;
 
@@ -25,7 +26,7 @@ pub fn release(table: Table, state: State, position: usize) -> Result<Success, R
         return Err(Refusal::NotInTable);
     }
     let job = parts::job_at(state, position);
-    if 0 < job.wait.0 {
+    if Ticks(0) < job.wait {
         return Err(Refusal::TooEarly);
     }
     let task = parts::task_at(table, position);

@@ -47,7 +47,7 @@ fn cut(job: Job) -> Outcome
 fn onward(task: Task, job: Job, held: Stack) -> Outcome
     ensures { result ≡ onward task job held }
 {
-    if job.used.0 == task.budget.0 {
+    if job.used == task.budget {
         return cut(job);
     }
     if sections::at_limit(task, held) {

@@ -6,13 +6,13 @@ ghost use Rattle.report.specs.Report.{objection};
 
 use state::{Job, Refusal, Report, Stack};
 use table::Task;
-use units::sets;
+use units::{Steps, sets};
 
 // It would be taken again, or be a fifth.
 fn held_or_fifth(resource: u8, own: Stack) -> bool
     ensures { result ≡ holds resource own || leb 4 own.depth }
 {
-    own.holds(resource) || Stack::PLACES <= (own.depth as usize)
+    own.holds(resource) || Stack::PLACES <= usize::from(own.depth)
 }
 
 // Why it is refused, if it is; `held` are the resources that jobs hold.
@@ -24,7 +24,7 @@ pub(crate) fn objection(task: Task, job: Job, held: u16, said: Report) -> Result
         Report::Give if job.held.any() => Ok(()),
         Report::Give => Err(Refusal::NotNow),
         Report::Take(resource) if held_or_fifth(resource, job.held) => Err(Refusal::NotNow),
-        Report::Take(resource) if task.limit(resource).0 == 0 => Err(Refusal::MayNotTake),
+        Report::Take(resource) if task.limit(resource) == Steps(0) => Err(Refusal::MayNotTake),
         Report::Take(resource) if sets::has(held, resource as usize) => Err(Refusal::HeldByAnother),
         Report::Take(_) => Ok(()),
     }

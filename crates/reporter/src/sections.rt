@@ -36,7 +36,7 @@ fn stacked(depth: u8, sections: [Section; 4]) -> Stack
     ensures { result ≡ stacked (λ i. get_or sections i no_section) depth }
 {
     let mut kept = sections;
-    kept[(depth as usize).min(Stack::PLACES)..].fill(Section::NONE);
+    kept[usize::from(depth).min(Stack::PLACES)..].fill(Section::NONE);
     Stack {
         depth,
         sections: kept,
@@ -49,7 +49,7 @@ pub(crate) fn taken(resource: u8, held: Stack) -> Stack
     ensures { result ≡ taken resource held }
 {
     let mut sections = held.sections;
-    sections[held.depth as usize] = Section {
+    sections[usize::from(held.depth)] = Section {
         resource,
         steps: Steps(0),
     };
@@ -67,5 +67,7 @@ pub(crate) fn given_back(held: Stack) -> Stack
 pub(crate) fn at_limit(task: Task, held: Stack) -> bool
     ensures { result ≡ at_limit task held }
 {
-    held.in_use().iter().any(|section| section.steps.0 == task.limit(section.resource).0)
+    held.in_use()
+        .iter()
+        .any(|section| section.steps == task.limit(section.resource))
 }

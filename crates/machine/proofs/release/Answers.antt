@@ -1,7 +1,7 @@
-use native.Mathlib.Omega.{arith}
+use Rattle.std.proofs.Common.{ltb-false}
 use mathlib.Core.Path.{sym, ◌∙◌}
 use borrow.Author.Rules.{rules}
-use Rattle.units.proofs.Laws.Tests.{told, tested}
+use Rattle.units.proofs.Laws.Tests.{told, tested, told_lt}
 use Rattle.seen.proofs.Laws.Examined.{faulty, unfit, fit}
 use Rattle.machine.proofs.Laws.Calls.{release_9, release_11, release_10}
 use Rattle.machine.proofs.Laws.Found.{found_place, found_free}
@@ -38,5 +38,6 @@ pub returns : goal.returns
 returns c =
     let good = fit _ _ c.examine.ensures c.in_ok-ok_or.ensures.ok_part c.in_ok-verdict_of.ensures in
     let between = tested c.mid_tick.ensures c.if-mid_tick.false in
-    let next = found_free _ _ _ good between c.if-table-position.false c.job_at-job.ensures (omega arith) c.released-next.ensures c.task_at-task.ensures in
+    let free = ltb-false _ _ (told_lt 0 _ c.lt.ensures c.if-lt.false) in
+    let next = found_free _ _ _ good between c.if-table-position.false c.job_at-job.ensures free c.released-next.ensures c.task_at-task.ensures in
     c.bare.ensures ∙ rw c.with_job.ensures (sym next)

@@ -6,8 +6,12 @@ use Rattle.std.proofs.lemmas.List.Elements.{filter-append}
 use Rattle.std.proofs.lemmas.List.FromFn.{length-enumerate_from, get_or-enumerate_from}
 use Rattle.std.proofs.lemmas.List.Sums.{fold-append}
 use Rattle.std.proofs.lemmas.Slice.Zip.{get_or-zip, length-zip}
+use Rattle.std.specs.Ordering.{nat_cmp, ord_min}
+use Rattle.std.proofs.lemmas.Bool.Decides.{nat_tests}
+use Rattle.units.specs.declared.Ticks.{Ticks}
 use Rattle.units.specs.Folds.{over, smallest, largest}
 use Rattle.units.proofs.Laws.Folds.{over_past, over-same, largest-same, long}
+use Rattle.units.proofs.Laws.Loops.{told_max}
 use Rattle.table.specs.declared.Table.{Table}
 use Rattle.table.specs.declared.Task.{Task}
 use Rattle.table.specs.Table.{D, S, no_task, task_at}
@@ -18,6 +22,10 @@ use Rattle.state.specs.Order.{place}
 use Rattle.choice.specs.Choice.{fastest}
 use Rattle.seen.specs.Seen.{ahead_by, inherited_by}
 use Rattle.chooser.proofs.speed.inherited.Goals as goal
+
+-- `min` of the derived order
+told_min : {A : Type 0} (f : A → ℕ) (a b : A) {r : A} → r ≡ ord_min (λ x y. nat_cmp (f x) (f y)) a b → f r ≡ min (f a) (f b)
+told_min f a b e = rw e (grind (arith, nat_tests))
 
 -- what a chain gathers of the first n elements is gathered over their positions
 module _ {A B : Type 0} (p : A → Bool) (g : B → A → B) (z : B) (d : A) (xs : List A) where
@@ -76,7 +84,10 @@ module _ (t : Table) (s : State) (n : ℕ) (e : n ≡ min t.count 16) (f : lengt
 
 pub returns : goal.returns
 returns c =
+    let a = c.args in
     let e = c.min-n.ensures in
-    let f : length c.args.table.tasks ≡ 16 = search (rules, long) in
-    let g : length c.args.state.jobs ≡ 16 = search (rules, long) in
-    fastest_is c.args.table c.args.state _ e f g _ _ c.fastest.ensures ∙ ends c.args.table c.args.state _ e f g c.args.run _ c.min.ensures c.max.ensures (ahead_is c.args.table c.args.state _ e f g c.args.run c.shortest_ahead-ahead.ensures)
+    let f : length a.table.tasks ≡ 16 = search (rules, long) in
+    let g : length a.state.jobs ≡ 16 = search (rules, long) in
+    let low = told_min (λ (t : Ticks). t.0) _ _ c.min.ensures in
+    let high = told_max (λ (t : Ticks). t.0) _ _ c.max.ensures in
+    fastest_is a.table a.state _ e f g _ _ c.fastest.ensures ∙ ends a.table a.state _ e f g a.run _ low high (ahead_is a.table a.state _ e f g a.run c.shortest_ahead.ensures)

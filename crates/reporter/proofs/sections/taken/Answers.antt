@@ -26,8 +26,8 @@ module _ (h : Stack) (r : ℕ) where
   abbrev put : ℕ → Section
   put i = get_or (set h.sections h.depth new) i no_section
 
-  opened : {a : Stack} → a ≡ stacked put (h.depth + 1) → h.depth < 4 → length h.sections ≡ 4 → a ≡ taken r h
-  opened f l e = f ∙ stacked-same _ (h.depth + 1) put (λ i b m. go i m (dec_lt i h.depth))
+  opened : {a : Stack} {n : ℕ} → n ≡ h.depth → a ≡ stacked (λ i. get_or (set h.sections n new) i no_section) (h.depth + 1) → h.depth < 4 → length h.sections ≡ 4 → a ≡ taken r h
+  opened m f l e = rw m at f ∙ stacked-same _ (h.depth + 1) put (λ i b m. go i m (dec_lt i h.depth))
     where
       go : (i : ℕ) → i < h.depth + 1 → Dec (i < h.depth) → put i ≡ cond (ltb i h.depth) (section_at h i) new
       go i m (yes b) = get_or-set_other h.sections h.depth i new no_section (λ x. omega (arith, x)) ∙ sym (cond_yes _ _ (lt-ltb _ _ b))
