@@ -67,8 +67,8 @@ pub(crate) fn reported(
 {
     match turn.runner {
         Some(p) => {
-            let task = task_at(table, p as usize);
-            let job = job_at(state, p as usize);
+            let task = task_at(table, usize::from(p));
+            let job = job_at(state, usize::from(p));
             reporter::reported(task, job, held, turn.speed, said)
         }
         None => reporter::reported_idle(said),

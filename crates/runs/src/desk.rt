@@ -91,7 +91,7 @@ impl Desk {
     }
 
     // A call that is refused leaves the state as it was.
-    fn go_on(&mut self, answer: Result<Success, Refusal>) {
+    fn go_on(&mut self, answer: &Result<Success, Refusal>) {
         if let Ok(success) = answer {
             self.state = success.state;
         }
@@ -100,35 +100,35 @@ impl Desk {
     fn release(&mut self, rt: &impl Print, position: usize) -> io::Result<()> {
         let now = self.state.tick.0;
         let answer = machine::release(self.table, self.state, position);
-        self.go_on(answer);
-        println!(rt; "{now} release {position} {}", number(answer))
+        self.go_on(&answer);
+        println!(rt; "{now} release {position} {}", number(&answer))
     }
 
     fn choose(&mut self, rt: &impl Print) -> io::Result<()> {
         let now = self.state.tick.0;
         let answer = machine::choose(self.table, self.state);
-        self.go_on(answer);
-        println!(rt; "{now} choose {} {}", number(answer), Choice::of(answer))
+        self.go_on(&answer);
+        println!(rt; "{now} choose {} {}", number(&answer), Choice::of(&answer))
     }
 
     fn report(&mut self, rt: &impl Print, said: Report) -> io::Result<()> {
         let now = self.state.tick.0;
         let answer = machine::report(self.table, self.state, said);
-        self.go_on(answer);
-        let choice = Choice::of(answer);
+        self.go_on(&answer);
+        let choice = Choice::of(&answer);
         println!(rt;
             "{now} report {} {choice} {}",
-            number(answer),
-            ending(answer)
+            number(&answer),
+            ending(&answer)
         )
     }
 
     fn tick(&mut self, rt: &impl Print, said: Report) -> io::Result<()> {
         let now = self.state.tick.0;
         let answer = tick(self.table, self.state, said);
-        self.go_on(answer);
-        match answer {
-            Ok(_) => println!(rt; "{now} run {} {}", Choice::of(answer), ending(answer)),
+        self.go_on(&answer);
+        match &answer {
+            Ok(_) => println!(rt; "{now} run {} {}", Choice::of(&answer), ending(&answer)),
             Err(refusal) => println!(rt; "{now} refused {}", refusal.number()),
         }
     }

@@ -27,13 +27,19 @@ impl fmt::Display for PlaceText {
 }
 
 // The number of an answer, 0 where it is no refusal.
-pub(crate) fn number(answer: Result<Success, Refusal>) -> u8 {
-    answer.err().map_or(0, Refusal::number)
+pub(crate) fn number(answer: &Result<Success, Refusal>) -> u8 {
+    match answer {
+        Ok(_) => 0,
+        Err(refusal) => refusal.number(),
+    }
 }
 
 // The number of its ending; a refusal ends nothing.
-pub(crate) fn ending(answer: Result<Success, Refusal>) -> u8 {
-    answer.map_or(0, |success| success.ending.number())
+pub(crate) fn ending(answer: &Result<Success, Refusal>) -> u8 {
+    match answer {
+        Ok(success) => success.ending.number(),
+        Err(_) => 0,
+    }
 }
 
 // Who is chosen, in which mode and at which speed.
@@ -46,7 +52,7 @@ pub(crate) struct Choice {
 
 impl Choice {
     // A refusal names no job: independent, speed 0.
-    pub(crate) fn of(answer: Result<Success, Refusal>) -> Choice {
+    pub(crate) fn of(answer: &Result<Success, Refusal>) -> Choice {
         match answer {
             Ok(success) => Choice {
                 runner: success.runner,

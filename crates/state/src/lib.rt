@@ -25,7 +25,7 @@ pub struct Section {
 #[derive(Clone, Copy, Debug, PartialEq, Eq)]
 pub struct Stack {
     pub depth: u8,
-    pub sections: [Section; 4],
+    pub sections: [Section; Stack::PLACES],
 }
 
 // The job of one task. What is not in use is 0. Whether it is pending is a flag and no Option: a state that is set by hand may hold the rest
@@ -62,7 +62,7 @@ pub type Runner = Option<u8>;
 #[derive(Clone, Copy)]
 pub struct State {
     pub tick: Tick,
-    pub jobs: [Job; 16],
+    pub jobs: [Job; State::TASKS],
     pub mark: Mark,
     pub half: Half,
     pub runner: Runner,
@@ -133,7 +133,7 @@ impl Stack {
 
     pub const EMPTY: Stack = Stack {
         depth: 0,
-        sections: [Section::NONE; 4],
+        sections: [Section::NONE; Stack::PLACES],
     };
 }
 
@@ -150,10 +150,10 @@ impl Job {
 
 // Sixteen places without a job. The fill changes nothing, but its bound is not known beforehand: so the compiler keeps a state in one
 // piece, and does not carry its two hundred numbers one by one through every call.
-fn no_jobs(count: usize) -> [Job; 16]
+fn no_jobs(count: usize) -> [Job; State::TASKS]
     ensures { result ≡ listed (λ k. no_job) 16 }
 {
-    let mut jobs = [Job::NONE; 16];
+    let mut jobs = [Job::NONE; State::TASKS];
     jobs[..count.min(State::TASKS)].fill(Job::NONE);
     jobs
 }
