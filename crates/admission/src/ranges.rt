@@ -15,22 +15,15 @@ fn limits_in_range(task: Task) -> bool
     task.limits.iter().all(|limit| *limit <= task.budget)
 }
 
+#[tactic(auto, unfolding(crate::specs::Admission::in_range))]
 fn in_range(full: u8, task: Task) -> bool
     ensures { result ≡ in_range full task }
 {
-    if !(Ticks(1)..=task.period).contains(&task.deadline) {
-        return false;
-    }
-    if task.budget < Steps(1) {
-        return false;
-    }
-    if !(1..=task.synchronization).contains(&task.independent) {
-        return false;
-    }
-    if full < task.synchronization {
-        return false;
-    }
-    limits_in_range(task)
+    (Ticks(1)..=task.period).contains(&task.deadline)
+        && Steps(1) <= task.budget
+        && (1..=task.synchronization).contains(&task.independent)
+        && task.synchronization <= full
+        && limits_in_range(task)
 }
 
 // What is wrong with a task, given the D of the position before it.

@@ -1,8 +1,8 @@
 -- What the number says of a verdict. Assumes nothing.
-use Rattle.std.proofs.Common.{◌≡◌, Ok, Err, refl, arith}
+use Rattle.std.proofs.Common.{◌≡◌, Err, arith}
 use Rattle.verdict.specs.declared.Fault.{Fault}
 use Rattle.verdict.specs.declared.Fault.TheVariants.{Count, Setting, Range, Divisor, Order, Independent, Synchronization}
-use Rattle.verdict.specs.Verdict.{Verdict, passing, answer}
+use Rattle.verdict.specs.Verdict.{answer}
 
 -- a fault has a number that is not 0
 pub fault_counts : (e : Fault) → (answer (Err e)).0 ≡ 0 → ⊥
@@ -13,8 +13,3 @@ fault_counts (Divisor k) h = omega arith
 fault_counts (Order k) h = omega arith
 fault_counts Independent h = omega arith
 fault_counts (Synchronization k) h = omega arith
-
--- so a table whose number is 0 passes
-pub zero_passes : (v : Verdict) → (answer v).0 ≡ 0 → v ≡ passing
-zero_passes (Ok _) h = refl
-zero_passes (Err e) h = absurd (fault_counts e h)

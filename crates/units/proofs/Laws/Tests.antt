@@ -108,12 +108,6 @@ module _ {A : Type 0} (f : A → ℕ) (a b x : A) {s : RangeInclusive A} {r : Bo
     pub told_within : r ≡ (leb (f a) (f x) && leb (f x) (f b))
     told_within = rw (i, j, k) at e ∙ ap₂ (λ (p q : Bool). p && q) (order_le (f a) (f x)) (order_le (f x) (f b))
 
-    pub told_inside : r ≡ true → (f a ≤ f x) × (f x ≤ f b)
-    told_inside h = let w = sym told_within ∙ h in (leb-true _ _ (and_left _ _ w), leb-true _ _ (and_right _ _ w))
-
-    pub told_outside : r ≡ false → f a ≤ f x → f x ≤ f b → ⊥
-    told_outside h l m = false≢true (sym h ∙ told_within ∙ and-true _ _ (le-leb _ _ l) (le-leb _ _ m))
-
 -- `search tests` at a return follows the rule, and finds what the tests on the way said wherever it stands in the record of the place.
 -- It also makes a rule of the plain facts of a record; `search parts` makes the record of the rule.
 pub ruleset tests = (
