@@ -35,6 +35,7 @@ pub(crate) fn turn(table: Table, state: State, found: Seen, run: u64) -> Turn
     requires { (positions_fit table state ≡ true) × ((found ≡ seen state) × (run ≡ runner table state)) }
     ensures { result ≡ turn table state }
 {
+    // Nobody is there.
     if State::NO_PLACE <= found.top {
         return Turn::IDLE;
     }

@@ -15,6 +15,7 @@ pub(crate) fn walk(table: Table, state: State) -> Option<Seen>
     ensures { result ≡ walked table state }
 {
     let mut seen = Seen::NOTHING;
+    // An index: the position is part of what is gathered.
     for (k, job) in state.jobs.iter().enumerate() {
         if k < table.count {
             let task = table.tasks[k];
@@ -32,6 +33,7 @@ pub(crate) fn walk(table: Table, state: State) -> Option<Seen>
     Some(seen)
 }
 
+// Small, since a function that looks into a table and hands it on has two copies on the stack.
 pub(crate) fn task_at(table: Table, position: u8) -> Task
     requires { position < 16 }
     ensures { result ≡ task_at table position }

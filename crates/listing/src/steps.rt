@@ -59,7 +59,7 @@ fn ticked(state: State, answer: Result<Success, Refusal>) -> Step
     }
 }
 
-// Both halves of a tick.
+// Both halves of a tick. What a refused half shows is of the state before it.
 fn tick(table: Table, state: State, said: Report) -> Step
     ensures { result ≡ step table state (Event·.Tick said) }
 {

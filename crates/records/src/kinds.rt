@@ -40,6 +40,7 @@ fn is_task(bytes: &[u8]) -> bool
 }
 
 // Whether three bytes are a release, or a tick with its report. Byte 3 names a resource at a take alone.
+// The bytes stay numbers, since the rule is of any three.
 #[tactic(auto, unfolding(crate::specs::Records::event_fits))]
 fn event_fits(kind: u8, said: u8, resource: u8) -> bool
     ensures { result ≡ event_fits kind said resource }

@@ -69,7 +69,7 @@ pub fn start(file: &[u8]) -> Tick
     Tick(bytes::long(bytes::record(file, 0), 8))
 }
 
-// What the record at k says, where it is an event.
+// What the record at k says, where it is an event; of any record, since nothing is asked of the file.
 #[tactic(auto, unfolding(crate::specs::Contents::event))]
 pub fn event_at(file: &[u8], k: usize) -> Event
     ensures { result ≡ event file.now k }

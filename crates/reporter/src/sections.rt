@@ -23,6 +23,7 @@ pub(crate) fn held_on(task: Task, speed: u8, held: Stack) -> Stack
         depth: held.depth,
         ..Stack::EMPTY
     };
+    // An index: of a zip with the places that are written, nothing would be known.
     for (i, section) in held.in_use().iter().enumerate() {
         let most = task.limit(section.resource);
         let steps = rise(section.steps, Steps::given(speed), most);
