@@ -24,9 +24,6 @@ module _ (l : List Job) (h : length l ≡ 16) (p : ℕ) (j : Job) where
   whole : (m : List Job) (k : ℕ) → m ≡ set l p j → 16 ≤ k → part waited k m ≡ map waited (set l p j)
   whole m k e b = ap (part waited k) e ∙ part_all waited k _ (le_trans (le_of_eq (length-set l p j ∙ h)) b)
 
-pub loop-next-init : goal.loop-next-init
-loop-next-init c = refl
-
 pub loop-next-preserved : goal.loop-next-preserved
 loop-next-preserved c = again c.if-position-lt-TASKS.jobs c.loop-next.next-index (rw c.saturating_sub.ensures) c.loop-next.invariant
 

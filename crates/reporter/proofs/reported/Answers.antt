@@ -26,15 +26,8 @@ module _ (task : Task) (j : Job) (held v : ℕ) (said : Report) where
   unfolding reported
   ends o was g f n = rw (← n, ← f, ← g)
 
--- no fifth is taken
-room : (task : Task) (v : ℕ) (was j : Job) (held : ℕ) (said : Report) → j ≡ worked task v was → 0 ≡ objection task was held said → (r : ℕ) → said ≡ Take r → j.held.depth < 4
-room task v was j held said e n r g = rw e ((fair task was held said (sym n)).takes r g).0.room
-
 pub returns-in_err-objection : goal.returns-in_err-objection
 returns-in_err-objection c = search (rules, objects)
-
-pub settled-requires : goal.settled-requires
-settled-requires c = search (rules, room)
 
 pub returns : goal.returns
 returns c = search (rules, ends)
