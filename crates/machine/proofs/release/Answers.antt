@@ -31,9 +31,6 @@ job_at-job-requires c = found_place _ c.in_ok-verdict_of.ensures c.if-table-posi
 pub task_at-task-requires : goal.task_at-task-requires
 task_at-task-requires c = found_place _ c.in_ok-verdict_of.ensures c.if-table-position.false
 
-pub with_job-requires : goal.with_job-requires
-with_job-requires c = found_place _ c.in_ok-verdict_of.ensures c.if-table-position.false
-
 pub returns : goal.returns
 returns c =
     let good = fit _ _ c.examine.ensures c.in_ok-ok_or.ensures.ok_part c.in_ok-verdict_of.ensures in
