@@ -1,14 +1,8 @@
 use native.Mathlib.Omega.{arith}
 use Rattle.units.proofs.Laws.Tests.{tested}
 use Rattle.records.proofs.Laws.{lines_within}
-use Rattle.lines.proofs.Laws.Whole.{unwritten}
-use Rattle.listing.specs.Listing.{listing}
-use Rattle.listing.proofs.Laws.{listed-whole, listed_malformed, listed_well_formed}
+use Rattle.listing.proofs.Laws.{listed_malformed, listed_well_formed}
 use Rattle.listing.proofs.list.Goals as goal
-
-pub returns-then-out-lt-ROOM : goal.returns-then-out-lt-ROOM
-returns-then-out-lt-ROOM c =
-    let a = c.args in listed-whole a.out.now a.file.now (unwritten 131072 a.out.now (listing a.file.now) c.if-out-lt-ROOM.true)
 
 pub returns-then-not-well_formed : goal.returns-then-not-well_formed
 returns-then-not-well_formed c =

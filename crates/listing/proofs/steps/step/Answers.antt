@@ -4,7 +4,3 @@ use Rattle.listing.proofs.steps.step.Goals as goal
 pub returns-in-Release : goal.returns-in-Release
 unfolding step
 returns-in-Release c = rw c.in-Release.is c.release.ensures
-
-pub returns-in-Tick : goal.returns-in-Tick
-unfolding step
-returns-in-Tick c = rw c.in-Tick.is c.tick.ensures
