@@ -35,6 +35,6 @@ pub returns : goal.returns
 returns c =
     let good = fit _ _ c.examine.ensures c.in_ok-ok_or.ensures.ok_part c.in_ok-verdict_of.ensures in
     let between = tested c.mid_tick.ensures c.if-mid_tick.false in
-    let free = ltb-false _ _ (told_lt 0 _ c.lt.ensures c.if-lt.false) in
+    let free = ltb-false _ _ (told_lt 0 c.job_at-job.result.wait.0 c.lt.ensures c.if-lt.false) in
     let next = found_free _ _ _ good between c.if-table-position.false c.job_at-job.ensures free c.released-next.ensures c.task_at-task.ensures in
     c.bare.ensures ∙ rw c.with_job.ensures (sym next)
