@@ -22,7 +22,8 @@ fn longest_on_each(tasks: &[Task], deadline: Ticks) -> [Steps; 8]
 {
     let mut longest = [Steps(0); 8];
     for task in tasks {
-        if deadline < task.deadline {
+        let counts = deadline < task.deadline;
+        if counts {
             longest = longer(&longest, &task.limits);
         }
     }
@@ -36,7 +37,8 @@ fn longest_of(ceilings: &[Ticks; 8], sections: &[Steps; 8], deadline: Ticks) -> 
     let mut longest = Steps(0);
     // An index: what a zip of the two lends does not say, in a proof, at which place it stands.
     for (r, section) in sections.iter().enumerate() {
-        if ceilings[r] <= deadline {
+        let counts = ceilings[r] <= deadline;
+        if counts {
             longest = longest.max(*section);
         }
     }

@@ -27,6 +27,7 @@ single = record {
   fresh = λ κs a r s v w p q. (p ∙ sym q, refl);
   refusal_number = λ κs a r s v w p q. (p ∙ sym q, refl);
   ending_number = λ κs a r s v w p q. (p ∙ sym q, refl);
+  from_fault = λ κs a r s v w p q. (p ∙ sym q, refl);
   bare = λ κs a r s v w p q. (success-same a.0 r s (p ∙ sym q), refl);
   in_use = λ κs a r s v w p q. (p ∙ sym q, refl);
   any = λ κs a r s v w p q. (p ∙ sym q, refl);

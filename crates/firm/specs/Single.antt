@@ -53,6 +53,7 @@ pub record Singleness : Type 0 where
   pub fresh : Single State.specs.contracts.State.fresh.ended State.proofs.State.fresh.Reads.Learnt
   pub refusal_number : Single State.specs.contracts.Refusal.number.ended State.proofs.Refusal.number.Reads.Learnt
   pub ending_number : Single State.specs.contracts.Ending.number.ended State.proofs.Ending.number.Reads.Learnt
+  pub from_fault : Single State.specs.contracts.RefusalFromFault.from.ended State.proofs.RefusalFromFault.from.Reads.Learnt
   pub bare : Single State.specs.contracts.Success.bare.ended State.proofs.Success.bare.Reads.Learnt
   pub in_use : SingleLent State.specs.contracts.Stack.in_use.ended (λ κs r. r.now) State.proofs.Stack.in_use.Reads.Learnt
   pub any : Single State.specs.contracts.Stack.any.ended State.proofs.Stack.any.Reads.Learnt

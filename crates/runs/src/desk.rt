@@ -1,4 +1,7 @@
 // What the commands do: they set a table or a state by hand, or call the machine.
+ghost use Rattle.std.specs.Prelude.{◌≡◌};
+ghost use Rattle.state.specs.Answers.{told};
+
 use crate::command::Command;
 use crate::text::{Choice, StateText, ending, number};
 use state::{Half, Job, Mark, Refusal, Report, Runner, Section, Start, State, Success};
@@ -91,7 +94,9 @@ impl Desk {
     }
 
     // A call that is refused leaves the state as it was.
-    fn go_on(&mut self, answer: &Result<Success, Refusal>) {
+    fn go_on(&mut self, answer: &Result<Success, Refusal>)
+        ensures { (self.new.table ≡ self.old.table) × (self.new.state ≡ (told self.old.state answer.now).state) }
+    {
         if let Ok(success) = answer {
             self.state = success.state;
         }

@@ -1,4 +1,8 @@
 // What is printed of the machine's values.
+ghost use Rattle.std.specs.Prelude.{◌≡◌};
+ghost use Rattle.state.specs.declared.State.{State as AnyState};
+ghost use Rattle.state.specs.Answers.{told, number_told};
+
 use state::{Half, Job, Mode, Place, Refusal, Runner, Section, Stack, State, Success};
 use std::fmt;
 
@@ -27,7 +31,9 @@ impl fmt::Display for PlaceText {
 }
 
 // The number of an answer, 0 where it is no refusal.
-pub(crate) fn number(answer: &Result<Success, Refusal>) -> u8 {
+pub(crate) fn number(answer: &Result<Success, Refusal>) -> u8
+    ensures { result ≡ number_told answer.now }
+{
     match answer {
         Ok(_) => 0,
         Err(refusal) => refusal.number(),
@@ -35,7 +41,9 @@ pub(crate) fn number(answer: &Result<Success, Refusal>) -> u8 {
 }
 
 // The number of its ending; a refusal ends nothing.
-pub(crate) fn ending(answer: &Result<Success, Refusal>) -> u8 {
+pub(crate) fn ending(answer: &Result<Success, Refusal>) -> u8
+    ensures { (s : AnyState) → result ≡ (told s answer.now).ending }
+{
     match answer {
         Ok(success) => success.ending.number(),
         Err(_) => 0,
@@ -52,7 +60,9 @@ pub(crate) struct Choice {
 
 impl Choice {
     // A refusal names no job: independent, speed 0.
-    pub(crate) fn of(answer: &Result<Success, Refusal>) -> Choice {
+    pub(crate) fn of(answer: &Result<Success, Refusal>) -> Choice
+        ensures { (s : AnyState) → (result.runner ≡ (told s answer.now).runner) × ((result.mode ≡ (told s answer.now).mode) × (result.speed ≡ (told s answer.now).speed)) }
+    {
         match answer {
             Ok(success) => Choice {
                 runner: success.runner,

@@ -1,5 +1,6 @@
-use Prim.Native.Nat.{ℕ, ◌+◌, ◌≤◌}
-use mathlib.Core.Path.{◌≡◌, refl, sym, ap, ◌∙◌}
+use Prim.Native.Nat.{ℕ, ◌+◌, ◌-◌, ◌≤◌}
+use native.Mathlib.Omega.{arith}
+use mathlib.Core.Path.{◌≡◌, sym, ap, ◌∙◌}
 use mathlib.Core.List.{List, map}
 use native.Mathlib.Nat.{le_trans, le_of_eq}
 use lib.ListN.{length, get_or, set, length-set}
@@ -25,11 +26,13 @@ module _ (l : List Job) (h : length l ≡ 16) (p : ℕ) (j : Job) where
   whole m k e b = ap (part waited k) e ∙ part_all waited k _ (le_trans (le_of_eq (length-set l p j ∙ h)) b)
 
 pub loop-next-preserved : goal.loop-next-preserved
-loop-next-preserved c = again c.if-position-lt-TASKS.jobs c.loop-next.next-index (rw c.saturating_sub.ensures) c.loop-next.invariant
+loop-next-preserved c =
+    let falls : c.saturating_sub.result ≡ (get_or c.loop-next.next-items c.loop-next.next-index past_job).wait.0 - 1 = omega arith in
+    again c.if-position-lt-TASKS.jobs c.loop-next.next-index (rw falls) c.loop-next.invariant
 
 pub returns : goal.returns
 returns c =
     let a = c.args in
     let h : length a.state.jobs ≡ 16 = search (rules, long) in
     let e : c.if-position-lt-TASKS.jobs ≡ set a.state.jobs a.position a.job = elim c.if-position-lt-TASKS.branch [ then-position-lt-TASKS w ↦ w.jobs-is | else-position-lt-TASKS w ↦ w.jobs-is ∙ unwritten a.state.jobs h a.position a.job w.if-position-lt-TASKS.false ] in
-    rw (c.after.ensures, c.loop-next.invariant ∙ whole a.state.jobs h a.position a.job _ _ e c.loop-next-test.false)
+    rw (c.after.ensures, c.loop-next.invariant ∙ whole a.state.jobs h a.position a.job _ _ e (omega (arith, h, ap length e, length-set a.state.jobs a.position a.job, c.loop-next-test.false)))

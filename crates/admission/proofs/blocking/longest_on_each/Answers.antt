@@ -1,4 +1,4 @@
-use Rattle.std.proofs.Common.{ℕ, List, ap, ◌∙◌, get_or, ltb, arith}
+use Rattle.std.proofs.Common.{rules, ℕ, List, ap, ◌∙◌, get_or, ltb, arith}
 use Rattle.std.proofs.lemmas.List.{get_or-replicate}
 use Rattle.units.specs.declared.Steps.{Steps}
 use Rattle.units.specs.Amounts.{steps}
@@ -7,7 +7,7 @@ use Rattle.units.proofs.Laws.Tests.{told_lt}
 use Rattle.units.proofs.Laws.Loops.{largest_taken, largest_passed}
 use Rattle.table.specs.Table.{limit, no_task}
 use Rattle.admission.proofs.blocking.longest_on_each.Goals as goal
-use Rattle.admission.proofs.blocking.longest_on_each.Goals.{then-lt, else-lt}
+use Rattle.admission.proofs.blocking.longest_on_each.Goals.{then-counts, else-counts}
 
 pub loop-task-init : goal.loop-task-init
 unfolding largest over
@@ -23,9 +23,9 @@ loop-task-preserved c =
       omega arith,
       λ r m.
           let number = λ (x : List Steps). (get_or x r (steps 0)).0 in
-          elim c.if-lt.branch [
-            | then-lt w ↦ largest_taken lower (λ j. limit (task j) r) n (told_lt a.deadline.0 (task n).deadline.0 c.lt.ensures w.if-lt.true)
+          elim c.if-counts.branch [
+            | then-counts w ↦ largest_taken lower (λ j. limit (task j) r) n (told_lt a.deadline.0 (task n).deadline.0 (search rules) w.if-counts.true)
                 (ap number w.longest-is ∙ w.longer-longest.ensures r m) (l.invariant.1 r m)
-            | else-lt w ↦ largest_passed lower (λ j. limit (task j) r) n (told_lt a.deadline.0 (task n).deadline.0 c.lt.ensures w.if-lt.false) (ap number w.longest-is) (l.invariant.1 r m)
+            | else-counts w ↦ largest_passed lower (λ j. limit (task j) r) n (told_lt a.deadline.0 (task n).deadline.0 (search rules) w.if-counts.false) (ap number w.longest-is) (l.invariant.1 r m)
           ],
     )

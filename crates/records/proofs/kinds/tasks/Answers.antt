@@ -1,4 +1,4 @@
-use Rattle.std.proofs.Common.{rules, refl, ◌∙◌}
+use Rattle.std.proofs.Common.{rules, arith, refl, ◌∙◌}
 use Rattle.std.proofs.lemmas.Iterator.{YieldsList-from_slice}
 use Rattle.std.proofs.lemmas.Iterator.Search.{YieldsList-from_take_while}
 use Rattle.std.proofs.lemmas.Iterator.Consumers.{count_from_yields_List}
@@ -16,6 +16,6 @@ returns c =
     let rest = rest_of _ _ _ c.get.ensures.lookup c.unwrap_or-behind.ensures refl in
     let n = count_from_yields_List t.result _ c.count-count.ensures.ran (YieldsList-from_take_while _ is_task (YieldsList-from_slice b (search rules)) t.ensures.closure t.ensures.done (λ x r q k. search (rules, tests))) ∙ length-prefix_len is_task b in
     record {
-      len = tasks_counted c.args.file.now r.result.now r.ensures.len r.ensures.each b _ rest n;
-      each = task_at c.args.file.now r.result.now r.ensures.len r.ensures.each b _ rest n;
+      len = tasks_counted c.args.file.now r.result.now r.ensures.len r.ensures.each b _ rest (omega (arith, n));
+      each = task_at c.args.file.now r.result.now r.ensures.len r.ensures.each b _ rest (omega (arith, n));
     }
